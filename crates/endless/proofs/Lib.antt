@@ -1,0 +1,5 @@
+mod Cases
+mod Exclusive
+mod Readers
+mod Theorems
+mod Unique
