@@ -1,5 +1,6 @@
 mod Cases
 mod Exclusive
+mod Nth
 mod Readers
 mod Theorems
 mod Unique

@@ -4,3 +4,4 @@ pub mod Says
 pub mod Sides
 pub mod Heads
 pub mod Words
+pub mod Answers

@@ -2,6 +2,7 @@
 //!
 //! A game is a list of words: how many places; then for each place whose
 //! move it is, its weight, how many moves it has, and these.
+pub mod answer;
 pub mod place;
 pub mod side;
 pub mod words;

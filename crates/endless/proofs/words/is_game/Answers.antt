@@ -1,11 +1,8 @@
-use mathlib.Core.Path.{_≡_, ap, _∙_}
-use mathlib.Core.List.{_∷_}
-use Prim.Native.Nat.{ℕ}
+use mathlib.Core.Path.{_≡_}
 use native.Mathlib.Omega.{arith}
-use lib.ListN.{length}
-use lib.Dec.{T, eqb}
-use Rattle.std.proofs.shelf.Tests.{eq-eqb, eqb-true}
-use Rattle.endless.proofs.Readers.{T-true, true-T, size-told, reading-none, reading-more, reading-stops, reading-all, reading-behind}
+use borrow.Author.Needs.{needs}
+use Rattle.std.proofs.shelf.Tests.{eq-eqb}
+use Rattle.endless.proofs.Readers.{true-T, size-told, reading-none, reading-more, reading-stops, reading-all, reading-behind}
 use Rattle.endless.proofs.Theorems.{parts}
 use Rattle.endless.proofs.words.is_game.Needs as need
 
@@ -37,7 +34,7 @@ returns c =
   let all : c .loop .counter ≡ c .in-Some .places = omega arith in
   record
   { says =
-      ( λ t. reading-all (c .args .words .now) (c .in-Some .places) (c .loop .counter) (c .loop .at) all (c .loop .inv) (eqb-true _ _ (T-true _ t))
-      , λ g. true-T _ (eq-eqb _ _ (reading-behind (c .args .words .now) (c .in-Some .places) (c .loop .counter) (c .loop .at) all (c .loop .inv) (g .0) (g .1))) )
+      ( λ t. reading-all (c .args .words .now) (c .in-Some .places) (c .loop .counter) (c .loop .at) all (c .loop .inv) (search needs)
+      , λ g. let end = reading-behind (c .args .words .now) (c .in-Some .places) (c .loop .counter) (c .loop .at) all (c .loop .inv) (g .0) (g .1) in true-T _ (eq-eqb _ _ end) )
   ; parts = parts
   }
