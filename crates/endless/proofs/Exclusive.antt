@@ -1,8 +1,8 @@
 -- No play is won by both sides: it has at most one heaviest weight.
-use mathlib.Core.Path.{_≡_, sym, subst}
-use Prim.Native.Nat.{ℕ, _%_, _≤_, max}
+use mathlib.Core.Path.{_≡_, subst}
+use Prim.Native.Nat.{ℕ, _%_, _≤_}
 use native.Mathlib.Omega.{arith}
-use Rattle.endless.specs.Games.{Game, Play, weight, Heaviest, Wins}
+use Rattle.endless.specs.Games.{Game, Play, Heaviest}
 use Rattle.endless.specs.Says.{Not-both}
 
 -- what comes once more behind another's last moment is no heavier than that

@@ -5,24 +5,18 @@ use mathlib.Core.List.{List, [], _∷_, _++_}
 use Prim.Native.Nat.{ℕ, zero, suc, _+_, _-_, _≤_, _<_}
 use native.Mathlib.Omega.{arith}
 use lib.ListN.{length, take, drop, getD}
-use lib.Dec.{T, ltb, leb}
+use lib.Dec.{T, ltb, leb, le→leb}
 use Rattle.std.proofs.shelf.Lists.{drop-more, drop-drop, drop-all, at-drop-more, append-nil, append-assoc, length-append, take-at, drop-at, take-append-drop, length-take-le, length-drop, take-rest}
-use Rattle.std.proofs.shelf.Tests.{lt-ltb, le-ltb, ltb-true, le-leb, leb-true, and-parts, and-from, both-ways}
-use Rattle.endless.specs.Games.{Place, Game, Reads, below, some-of, ok-ps, row}
+use Rattle.std.proofs.shelf.Tests.{lt-ltb, le-ltb, both-ways}
+use Rattle.endless.specs.Games.{Place, Game, Reads, below, ok-ps, row}
 use Rattle.endless.specs.Sides.{number}
 use Rattle.endless.specs.Heads.{Begins}
 use Rattle.endless.specs.Words.{Stands}
+use Rattle.endless.proofs.Tests.{T-true, true-T, from-both}
+use Rattle.endless.proofs.Places.{ok-parts, ok-from, ok-size}
 use Rattle.endless.specs.declared.side.Side.{Side}
 use Rattle.endless.specs.declared.side.Side.the-variants.{Even, Odd}
 use Rattle.endless.specs.declared.place.Head.{Head}
-
--- a test that is true, as a type and as an equation
-pub T-true : (b : Bool) → T b → b ≡ true
-T-true true t = refl
-T-true false t = elim t [ ]
-pub true-T : (b : Bool) → b ≡ true → T b
-true-T true e = tt
-true-T false e = absurd (both-ways false refl e)
 
 -- three words at the front
 pub three-front : (s : List ℕ) → 3 ≤ length s → s ≡ getD s 0 0 ∷ getD s 1 0 ∷ getD s 2 0 ∷ drop 3 s
@@ -36,29 +30,6 @@ pub below-in : (n : ℕ) (s : List ℕ) (i : ℕ) → i < length s → getD s i 
 below-in n s i h k = sym (at-drop-more (below n) s i 0 h ∙ ap (λ (b : Bool). b && below n (drop (i + 1) s)) (lt-ltb (getD s i 0) n k))
 pub below-end : (n : ℕ) (s : List ℕ) (i : ℕ) → length s ≤ i → below n (drop i s) ≡ true
 below-end n s i h = ap (below n) (drop-all i s h)
-
--- a place that fits in a game of n places
-pub record Fine (n : ℕ) (p : Place) : Type 0 where
-  pub side : p .whose < 2
-  pub light : p .weight < 256
-  pub moving : 1 ≤ length (p .moves)
-  pub inside : below n (p .moves) ≡ true
-some-length : (l : List ℕ) → some-of l ≡ true → 1 ≤ length l
-some-length [] e = absurd (both-ways false refl e)
-some-length (x ∷ xs) e = omega arith
-length-some : (l : List ℕ) → 1 ≤ length l → some-of l ≡ true
-length-some [] h = absurd (omega arith)
-length-some (x ∷ xs) h = refl
-pub ok-parts : (n : ℕ) (p : Place) (ps : List Place) → T (ok-ps n (p ∷ ps)) → Fine n p × T (ok-ps n ps)
-ok-parts n p ps t =
-  let a = and-parts _ _ (T-true _ t) in
-  let h = and-parts _ _ (a .0) in
-  let m = and-parts _ _ (a .1) in
-  let l = and-parts _ _ (m .0) in
-  ( record { side = ltb-true _ _ (h .0); light = ltb-true _ _ (h .1); moving = some-length (p .moves) (l .0); inside = l .1 }, true-T _ (m .1) )
-pub ok-from : (n : ℕ) (p : Place) (ps : List Place) → Fine n p → T (ok-ps n ps) → T (ok-ps n (p ∷ ps))
-ok-from n p ps f t =
-  true-T _ (and-from _ _ (and-from _ _ (lt-ltb _ _ (f .side)) (lt-ltb _ _ (f .light))) (and-from _ _ (and-from _ _ (length-some (p .moves) (f .moving)) (f .inside)) (T-true _ t)))
 
 -- a place's words, and what follows them
 pub row-then : (p : Place) (ps : List Place) → row (p ∷ []) ++ row ps ≡ row (p ∷ ps)
@@ -89,7 +60,7 @@ moves-out s n w k m rest is out p more e t =
   let f = ok-parts n p [] t .0 in
   let long : m ≤ length rest = omega (arith, ap length (h .follows), length-append (p .moves) more, h .counts) in
   let these : take m rest ≡ p .moves = ap (take m) (h .follows) ∙ take-at (p .moves) more m (h .counts) in
-  both-ways (below n (p .moves)) (sym (ap (below n) these) ∙ out long) (f .inside)
+  both-ways (below n (p .moves)) (sym (ap (below n) these) ∙ out long) (T-true _ (f .inside))
 -- a head and enough moves into the game are a place
 pub place-of : ℕ → ℕ → ℕ → List ℕ → Place
 place-of w k m rest = record { whose = w; weight = k; moves = take m rest }
@@ -103,7 +74,7 @@ place-stands s at n w k m rest is w2 k256 m1 long ins =
   let whole : rest ≡ (take m rest ++ []) ++ drop (at + 3 + m) s = sym (ap (λ (l : List ℕ). l ++ drop (at + 3 + m) s) (append-nil (take m rest)) ∙ ap (λ (l : List ℕ). take m rest ++ l) end ∙ take-append-drop m rest) in
   record
   { is = is ∙ (cc)
-  ; fine = ok-from n (place-of w k m rest) [] (record { side = w2; light = k256; moving = omega arith; inside = ins }) tt
+  ; fine = ok-from n (place-of w k m rest) [] (record { side = w2; light = k256; moving = omega arith; inside = true-T _ ins }) tt
   ; within = omega (arith, length-drop (at + 3) s, ap length left, length-drop at s, ap length is)
   }
 
@@ -129,15 +100,6 @@ pub place-missing : (s : List ℕ) (at n : ℕ) (h : Head) → Begins (Behind s 
 place-missing s at n h b out =
   moves-out (drop at s) n _ _ _ (drop (at + 3) s) (head-at s at h b) (λ long. sym (moves-at s (at + 3) n (h .moves)) ∙ out (omega (arith, ap length (take-rest s (at + 3)))))
 
--- every place of a game fits in it
-pub reads-ok : (s : List ℕ) (g : Game) → Reads s g → ok-ps (length g) g ≡ true
-reads-ok s g r = and-parts (leb (length g) 16384) _ (and-parts (leb 1 (length g)) _ (T-true _ (r .fine)) .1) .1
--- and there are 1 to 16,384
-pub size-told : (s : List ℕ) (g : Game) → Reads s g → (1 ≤ length g) × (length g ≤ 16384)
-size-told s g r =
-  let a = and-parts (leb 1 (length g)) _ (T-true _ (r .fine)) in
-  (leb-true 1 (length g) (a .0), leb-true (length g) 16384 (and-parts (leb (length g) 16384) _ (a .1) .0))
-
 -- i of n places are read, and the next stands at `at`: what is left decides whether the words are a game
 pub record Reading (s : List ℕ) (n i at : ℕ) : Type 0 where
   pub within : at ≤ length s
@@ -150,11 +112,11 @@ reading-none s n rest is low high = record
       let size : length ps ≡ n = omega arith in
       (ps, record
       { is = is ∙ (cc (ap (drop 1) is))
-      ; fine = true-T _ (and-from _ _ (le-leb 1 (length ps) (omega arith)) (and-from _ _ (le-leb (length ps) 16384 (omega arith)) (ap (λ (k : ℕ). ok-ps k ps) size ∙ T-true _ ok)))
+      ; fine = from-both _ _ (le→leb 1 (length ps) (omega arith)) (from-both _ _ (le→leb (length ps) 16384 (omega arith)) (subst (λ (k : ℕ). T (ok-ps k ps)) (sym size) ok))
       })
   ; needed = λ g r.
       let size : length g ≡ n = cc (r .is, is) in
-      (g, omega arith, ap (drop 1) (r .is), true-T _ (sym (ap (λ (k : ℕ). ok-ps k g) size) ∙ reads-ok s g r))
+      (g, omega arith, ap (drop 1) (r .is), subst (λ (k : ℕ). T (ok-ps k g)) size (ok-size s g r .2))
   }
 -- one place more
 pub reading-more : (s : List ℕ) (n i at : ℕ) (p : Place) (end : ℕ) → i < n → Reading s n i at → Stands s at n p end → Reading s n (i + 1) end

@@ -1,10 +1,10 @@
 -- Words are at most one game: the counts in them say where each place ends.
-use mathlib.Core.Path.{_≡_, refl, sym, ap, _∙_}
+use mathlib.Core.Path.{_≡_, refl}
 use mathlib.Core.List.{List, [], _∷_, _++_}
 use Prim.Native.Nat.{ℕ}
 use native.Mathlib.Omega.{arith}
 use lib.ListN.{length}
-use Rattle.endless.specs.Games.{Place, Game, Reads, row}
+use Rattle.endless.specs.Games.{Game, row}
 use Rattle.endless.specs.Says.{One-game}
 
 -- two lists in front that are as long as one another, and what follows them

@@ -42,17 +42,33 @@ Rounds-win = (s : List ℕ) (g : Game) (w : ℕ) (plan : ℕ → ℕ) (won : ℕ
 abbrev pub Each-is-won : Type 0
 Each-is-won = (s : List ℕ) (g : Game) → Reads s g → (sides : ℕ → ℕ) × (a : ℕ → ℕ) × (b : ℕ → ℕ) × ((n : ℕ) → sides n < 2) × Wins-from g 0 a (λ n. (n < length g) × (sides n ≡ 0)) × Wins-from g 1 b (λ n. (n < length g) × (sides n ≡ 1))
 
+-- and there is no other answer: whatever plan wins for a side, from wherever, wins only places that an answer gives to that side
+abbrev pub Only-answer : Type 0
+Only-answer = (s : List ℕ) (g : Game) (sides a b : ℕ → ℕ) (w : ℕ) (plan : ℕ → ℕ) (won : ℕ → Bool) (n : ℕ) → Reads s g → ((m : ℕ) → m < length g → sides m < 2) → Wins-from g 0 a (λ m. (m < length g) × (sides m ≡ 0)) → Wins-from g 1 b (λ m. (m < length g) × (sides m ≡ 1)) →
+  w < 2 → Wins-from g w plan (λ m. T (won m)) → n < length g → T (won n) → sides n ≡ w
+-- the heaviest, as far as that can be said of a play of which no rule is known: from some moment on nothing heavier comes, and at no moment has it come for the last time
+pub record Weakly-heaviest (g : Game) (f : Play) (k : ℕ) : Type 0 where
+  pub from : ℕ
+  pub none-heavier : (i : ℕ) → from ≤ i → weight g (f i) ≤ k
+  pub never-last : (i : ℕ) → ((j : ℕ) → i ≤ j → weight g (f j) ≡ k → ⊥) → ⊥
+-- of no play can it be denied that some weight is the heaviest
+abbrev pub Some-heaviest : Type 0
+Some-heaviest = (s : List ℕ) (g : Game) (f : Play) → Reads s g → Plays g f → ((k : ℕ) → Weakly-heaviest g f k → ⊥) → ⊥
+-- a search that cannot fail ends; with that, the heaviest of `Wins` itself
+abbrev pub Searches-end : Type 0
+Searches-end = (P : ℕ → Bool) → (((n : ℕ) → T (P n) → ⊥) → ⊥) → (n : ℕ) × T (P n)
+abbrev pub Some-heaviest-found : Type 0
+Some-heaviest-found = Searches-end → (s : List ℕ) (g : Game) (f : Play) → Reads s g → Plays g f → ((k : ℕ) → Heaviest g f k → ⊥) → ⊥
+-- so what is not lost is won: in every play by a plan that wins the heaviest is of its side's kind
+abbrev pub Plan-wins : Type 0
+Plan-wins = (s : List ℕ) (g : Game) (w : ℕ) (plan : ℕ → ℕ) (won : ℕ → Bool) (f : Play) (k : ℕ) → Reads s g → w < 2 → Wins-from g w plan (λ m. T (won m)) → T (won (f 0)) → Plays g f → By-plan g w plan f → Weakly-heaviest g f k → Prim.Native.Nat._%_ k 2 ≡ w
+-- a plan that wins is not let off by there being no play: against every reply there is one play by both, and the side with the plan wins it
+abbrev pub Winner-wins : Type 0
+Winner-wins = (s : List ℕ) (g : Game) (w : ℕ) (plan reply : ℕ → ℕ) (won : ℕ → Bool) (n : ℕ) → Reads s g → w < 2 → Wins-from g w plan (λ m. T (won m)) → ((m : ℕ) → m < length g → whose g m ≡ other w → May g m (reply m)) → n < length g → T (won n) →
+  (f : Play) × (f 0 ≡ n) × Plays g f × By-plan g w plan f × By-plan g (other w) reply f × Wins g w f
+
 -- an answer as words: for each place who wins it, and where the one whose move it is goes, by the winner's plan, if it's theirs
 abbrev pub side : List ℕ → ℕ → ℕ
 side o n = opt (nth o (2 * n)) 2 (λ x. x)
 abbrev pub goes : List ℕ → ℕ → ℕ
 goes o n = opt (nth o (2 * n + 1)) 0 (λ x. x)
-
--- the theorems that the gate asks for with a public call's promise
-pub record Parts : Type 0 where
-  pub p1 : One-game
-  pub p2 : Not-both
--- what `is_game` promises: true exactly where some game reads as the words; and the theorems
-pub record IsGamePost (s : List ℕ) (r : Bool) : Type 0 where
-  pub says : T r ↔ ((g : Game) × Reads s g)
-  pub parts : Parts

@@ -5,7 +5,7 @@ ghost use mathlib.Core.Path.{_≡_};
 ghost use lib.Dec.{T};
 ghost use mathlib.Core.Logic.{_↔_};
 ghost use Rattle.endless.specs.Games.{below};
-ghost use Rattle.endless.specs.Says.{IsGamePost};
+ghost use Rattle.endless.specs.Promises.{IsGamePost};
 ghost use Rattle.endless.specs.Words.{PlacesIs, PlaceEnds};
 use crate::place::Head;
 
