@@ -10,3 +10,10 @@ pub mod Sides
 pub mod Heads
 pub mod Words
 pub mod Answers
+pub mod Bits
+pub mod Weights
+pub mod Graph
+pub mod View
+pub mod Pulling
+pub mod Levels
+pub mod Layout

@@ -1,5 +1,5 @@
 //! The two sides of a game.
-ghost use Prim.Native.Nat.{_<_};
+ghost use Prim.Native.Nat.{_%_};
 ghost use mathlib.Core.Path.{_≡_};
 ghost use Rattle.endless.specs.Games.{other};
 ghost use Rattle.endless.specs.Sides.{number, SideIs};
@@ -31,6 +31,14 @@ impl Side {
             Side::Even => 0,
             Side::Odd => 1,
         }
+    }
+
+    /// The side that wins where this weight is the heaviest that comes again
+    /// and again.
+    pub fn of_weight(weight: u32) -> Side
+        ensures { λ r. ⌜ weight % 2 ≡ number r ⌝ }
+    {
+        if weight % 2 == 0 { Side::Even } else { Side::Odd }
     }
 
     /// The side against which this one plays.

@@ -5,14 +5,13 @@ use Rattle.std.proofs.shelf.Tests.{eq-eqb}
 use Rattle.endless.proofs.Readers.{reading-none, reading-more, reading-stops, reading-all, reading-behind}
 use Rattle.endless.proofs.Tests.{true-T}
 use Rattle.endless.proofs.Places.{ok-size}
-use Rattle.endless.proofs.Theorems.{parts, further}
+use Rattle.endless.proofs.Theorems.{parts}
 use Rattle.endless.proofs.words.is_game.Needs as need
 
 pub returns-in-rest : need.returns-in-rest
 returns-in-rest c = record
   { says = (λ t. absurd t, λ g. let size = ok-size (c .args .words .now) (g .0) (g .1) in c .in-rest .ensures tt _ _ (g .1 .is) (size .0) (size .1))
   ; parts = parts
-  ; further = further
   }
 
 pub loop-holds : need.loop-holds
@@ -25,7 +24,6 @@ pub returns-in-rest-place-end : need.returns-in-rest-place-end
 returns-in-rest-place-end c = record
   { says = (λ t. absurd t, λ g. reading-stops (c .args .words .now) (c .in-Some .places) (c .loop .counter) (c .loop .at) (c .loop-test .taken) (c .loop .inv) (c .in-rest-place-end .ensures tt) (g .0) (g .1))
   ; parts = parts
-  ; further = further
   }
 
 pub loop-again : need.loop-again
@@ -41,5 +39,4 @@ returns c =
       ( λ t. reading-all (c .args .words .now) (c .in-Some .places) (c .loop .counter) (c .loop .at) all (c .loop .inv) (search needs)
       , λ g. let end = reading-behind (c .args .words .now) (c .in-Some .places) (c .loop .counter) (c .loop .at) all (c .loop .inv) (g .0) (g .1) in true-T _ (eq-eqb _ _ end) )
   ; parts = parts
-  ; further = further
   }
