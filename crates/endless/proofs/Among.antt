@@ -10,6 +10,7 @@ pub among-at : (m : ℕ) (l : List ℕ) → Among m l → (k : ℕ) × (k < leng
 among-at m [] a = elim a [ ]
 among-at m (x ∷ xs) first = (0, omega arith, refl)
 among-at m (x ∷ xs) (later a) = let t = among-at m xs a in (suc (t .0), omega (arith, t .1), t .2)
+
 pub at-among : (l : List ℕ) (k : ℕ) → k < length l → Among (getD l k 0) l
 at-among [] k h = absurd (omega arith)
 at-among (x ∷ xs) zero h = first

@@ -22,6 +22,7 @@ reads = record { is = refl; fine = tt }
 only : (m x : ℕ) → Among m (x ∷ []) → m ≡ x
 only m x first = refl
 only m x (later a) = elim a [ ]
+
 -- the answer's plans win: side 0 from 0 and 1, where 2 is the heaviest of every round
 low : (n : ℕ) (ns : List ℕ) (k : ℕ) → n < 2 → Round three 0 (goes answer) n ns k → (heaviest three ns ≤ 2) × (n ≡ 0 → k ≡ 0 → 2 ≤ heaviest three ns) × (n ≡ 1 → 2 ≤ heaviest three ns)
 unfolding three answer
@@ -48,19 +49,23 @@ wins-0 = wins-as three 0 (goes answer) (λ n. T (ltb n 2)) (Told answer 0) to fr
     to zero x = (omega arith, refl)
     to (suc zero) x = (omega arith, refl)
     to (suc (suc n)) x = absurd (omega (arith, ltb→lt (suc (suc n)) 2 x))
+
     fro : (n : ℕ) → Told answer 0 n → T (ltb n 2)
     fro zero t = tt
     fro (suc zero) t = tt
     fro (suc (suc zero)) t = absurd (suc-ne-zero 0 (t .1))
     fro (suc (suc (suc n))) t = absurd (omega arith)
+
     may : (n : ℕ) → T (ltb n 2) → whose three n ≡ 0 → May three n (goes answer n) × T (ltb (goes answer n) 2)
     may zero x e = (first, tt)
     may (suc zero) x e = absurd (suc-ne-zero 0 e)
     may (suc (suc n)) x e = absurd (omega (arith, ltb→lt (suc (suc n)) 2 x))
+
     held : (n m : ℕ) → T (ltb n 2) → (whose three n ≡ 0 → ⊥) → May three n m → T (ltb m 2)
     held zero m x d a = absurd (d refl)
     held (suc zero) m x d a = subst (λ (k : ℕ). T (ltb k 2)) (sym (only m 0 a)) tt
     held (suc (suc n)) m x d a = absurd (omega (arith, ltb→lt (suc (suc n)) 2 x))
+
     rounds : (n : ℕ) (ns : List ℕ) → T (ltb n 2) → Round three 0 (goes answer) n ns n → heaviest three ns % 2 ≡ 0
     rounds n ns x r = let l = ltb→lt n 2 x in let t = low n ns n l r in go t (cases-eq n 0) l
       where
@@ -74,15 +79,19 @@ wins-1 = wins-as three 1 (goes answer) (λ n. T (eqb n 2)) (Told answer 1) to fr
   where
     to : (n : ℕ) → T (eqb n 2) → Told answer 1 n
     to n x = subst (Told answer 1) (sym (eqb→eq n 2 x)) (omega arith, refl)
+
     fro : (n : ℕ) → Told answer 1 n → T (eqb n 2)
     fro zero t = absurd (omega arith)
     fro (suc zero) t = absurd (omega arith)
     fro (suc (suc zero)) t = tt
     fro (suc (suc (suc n))) t = absurd (omega arith)
+
     may : (n : ℕ) → T (eqb n 2) → whose three n ≡ 1 → May three n (goes answer n) × T (eqb (goes answer n) 2)
     may n x e = subst (λ (m : ℕ). May three m (goes answer m) × T (eqb (goes answer m) 2)) (sym (eqb→eq n 2 x)) (later first, tt)
+
     held : (n m : ℕ) → T (eqb n 2) → (whose three n ≡ 1 → ⊥) → May three n m → T (eqb m 2)
     held n m x d a = absurd (d (subst (λ (k : ℕ). whose three k ≡ 1) (sym (eqb→eq n 2 x)) refl))
+
     rounds : (n : ℕ) (ns : List ℕ) → T (eqb n 2) → Round three 1 (goes answer) n ns n → heaviest three ns % 2 ≡ 1
     rounds n ns x r = omega (arith, high n ns n (eqb→eq n 2 x) r)
 
@@ -93,17 +102,17 @@ not-wins-0 wins = wins .not-lost (λ i. 2) (omega arith, refl) (λ i. later firs
 
 pub three-places : Three-places
 unfolding three answer
-three-places = record
-  { reads = reads
-  ; to-one = first
-  ; to-two = later first
-  ; round-one = then1 {m = 1} first (λ e. refl) (last {m = 0} first (λ e. absurd (suc-ne-zero 0 e)))
-  ; round-two = then1 {m = 2} (later first) (λ e. refl) (last {m = 0} first (λ e. absurd (suc-ne-zero 0 e)))
-  ; heaviest-one = refl
-  ; heaviest-two = refl
-  ; sides = (refl, refl, refl)
-  ; moves = (refl, refl)
-  ; wins-0 = wins-0
-  ; wins-1 = wins-1
-  ; not-wins-0 = not-wins-0
-  }
+three-places = record {
+  reads = reads;
+  to-one = first;
+  to-two = later first;
+  round-one = then1 {m = 1} first (λ e. refl) (last {m = 0} first (λ e. absurd (suc-ne-zero 0 e)));
+  round-two = then1 {m = 2} (later first) (λ e. refl) (last {m = 0} first (λ e. absurd (suc-ne-zero 0 e)));
+  heaviest-one = refl;
+  heaviest-two = refl;
+  sides = (refl, refl, refl);
+  moves = (refl, refl);
+  wins-0 = wins-0;
+  wins-1 = wins-1;
+  not-wins-0 = not-wins-0;
+}

@@ -28,6 +28,7 @@ top g U (suc b) = go (in-or-out U b) (top g U b)
     more : In U b → (t : Top g U b) → (weight g (t .0) < weight g b) ⊎ (weight g b ≤ weight g (t .0)) → Top g U (suc b)
     more x t (inl l) = (b, omega arith, x, below-suc (λ m. In U m → weight g m ≤ weight g b) b (λ m h y. omega (arith, t .3 m h y, l)) (λ y. omega arith))
     more x t (inr l) = (t .0, omega (arith, t .1), t .2, below-suc (λ m. In U m → weight g m ≤ weight g (t .0)) b (t .3) (λ y. l))
+
     go : In U b ⊎ Out U b → Top g U b ⊎ ((m : ℕ) → m < b → Out U m) → Top g U (suc b) ⊎ ((m : ℕ) → m < suc b → Out U m)
     go (inl x) (inl t) = inl (more x t (cases-lt (weight g (t .0)) (weight g b)))
     go (inl x) (inr o) = inl (b, omega arith, x, below-suc (λ m. In U m → weight g m ≤ weight g b) b (λ m h y. absurd (o m h y)) (λ y. omega arith))
@@ -64,25 +65,35 @@ module _ (s : List ℕ) (g : Game) (r : Reads s g) (U : Set) (sub : Subgame g U)
 
   -- a side holds some places: their attractor is taken away, and what is left is answered
   take-away : (w : ℕ) → w < 2 → (X : Set) (σ : ℕ → ℕ) (n : ℕ) → In X n → Holds g U X w σ → Answer g U
-  take-away w l X σ n x h = (sides, plan, peel r l att won (λ m y. merge-in B (λ m. w) (rest .0) m y) (solves-as sides plan
-      (λ m y. merge-out B (λ m. w) (rest .0) m (minus-out U B m y)) (λ m y. merge-out B (merge X σ (t .1)) (rest .1) m (minus-out U B m y)) (rest .2)))
+  take-away w l X σ n x h = (
+    sides,
+    plan,
+    peel r l att won (λ m y. merge-in B (λ m. w) (rest .0) m y) (solves-as sides plan
+        (λ m y. merge-out B (λ m. w) (rest .0) m (minus-out U B m y)) (λ m y. merge-out B (merge X σ (t .1)) (rest .1) m (minus-out U B m y)) (rest .2)),
+  )
     where
       t : Attracted g U w X
       t = attract g U w X sub (h .within)
+
       B : Set
       B = t .0
+
       att : Attractor g U w X B (t .1) (t .2)
       att = t .3
+
       rest : Answer g (minus U B)
       rest = smaller (minus U B) (rest-subgame sub att) (less B n (h .within n x) (att .targets n x))
+
       sides : ℕ → ℕ
       sides = merge B (λ m. w) (rest .0)
+
       plan : ℕ → ℕ
       plan = merge B (merge X σ (t .1)) (rest .1)
+
       won : Holds g U B w plan
       won = attract-won plan
-        (λ m y e. merge-in B (merge X σ (t .1)) (rest .1) m (att .targets m y) ∙ merge-in X σ (t .1) m y)
-        (λ m y e. merge-in B (merge X σ (t .1)) (rest .1) m (minus-within B X m y) ∙ merge-out X σ (t .1) m (minus-out B X m y)) h att
+          (λ m y e. merge-in B (merge X σ (t .1)) (rest .1) m (att .targets m y) ∙ merge-in X σ (t .1) m y)
+          (λ m y e. merge-in B (merge X σ (t .1)) (rest .1) m (minus-within B X m y) ∙ merge-out X σ (t .1) m (minus-out B X m y)) h att
 
   -- n is a heaviest place
   turn : (n : ℕ) → In U n → ((m : ℕ) → In U m → weight g m ≤ weight g n) → Answer g U
@@ -90,24 +101,34 @@ module _ (s : List ℕ) (g : Game) (r : Reads s g) (U : Set) (sub : Subgame g U)
     where
       h : ℕ
       h = weight g n
+
       p : ℕ
       p = h % 2
+
       l : p < 2
       l = omega arith
+
       D : Set
       D = having U (weight g) h
+
       t : Attracted g U p D
       t = attract g U p D sub (having-within U (weight g) h)
+
       A : Set
       A = t .0
+
       att : Attractor g U p D A (t .1) (t .2)
       att = t .3
+
       rest : Answer g (minus U A)
       rest = smaller (minus U A) (rest-subgame sub att) (less A n u (att .targets n (having-in U (weight g) h n u refl)))
+
       mine : Set
       mine = having (minus U A) (rest .0) p
+
       theirs : Set
       theirs = having (minus U A) (rest .0) (other p)
+
       -- the other side holds nothing of the rest
       all-mine : ((m : ℕ) → m < length g → Out theirs m) → Within (minus U A) mine
       all-mine o m x = which (cases-eq (rest .0 m) p)
@@ -115,18 +136,24 @@ module _ (s : List ℕ) (g : Game) (r : Reads s g) (U : Set) (sub : Subgame g U)
           which : (rest .0 m ≡ p) ⊎ (rest .0 m ≡ p → ⊥) → In mine m
           which (inl e) = having-in (minus U A) (rest .0) p m x e
           which (inr d) = absurd (o m (sub .places m (minus-within U A m x)) (having-in (minus U A) (rest .0) (other p) m x (is-other p (rest .0 m) l (rest .2 .one-of-two m x) d)))
+
       lower : ℕ → ℕ
       lower = merge A (t .1) (rest .1)
+
       plan : ℕ → ℕ
       plan = merge D way lower
+
       on-heaviest : (m : ℕ) → In D m → whose g m ≡ p → May g m (plan m) × In U (plan m)
       on-heaviest m d e = subst (λ (k : ℕ). May g m k × In U k) (sym (merge-in D way lower m d)) (way-in m (having-within U (weight g) h m d))
+
       on-attracted : Same g p (minus A D) plan (t .1)
       on-attracted m y e = merge-out D way lower m (minus-out A D m y) ∙ merge-in A (t .1) (rest .1) m (minus-within A D m y)
+
       on-rest : Same g p mine plan (rest .1)
       on-rest m y e =
-        let o = minus-out U A m (having-within (minus U A) (rest .0) p m y) in
-        merge-out D way lower m (λ d. o (att .targets m d)) ∙ merge-out A (t .1) (rest .1) m o
+          let o = minus-out U A m (having-within (minus U A) (rest .0) p m y) in
+          merge-out D way lower m (λ d. o (att .targets m d)) ∙ merge-out A (t .1) (rest .1) m o
+
       go : ((m : ℕ) × (m < length g) × In theirs m) ⊎ ((m : ℕ) → m < length g → Out theirs m) → Answer g U
       go (inl m) = take-away (other p) (other-below p) theirs (rest .1) (m .0) (m .2) (won-outside (else-is r (other p) p (other-below p) l (λ e. not-other p p l refl (sym e))) att (rest .2 .won (other p) (other-below p)))
       go (inr o) = ((λ m. p), plan, solves-all (λ m. p) l (λ m x. refl) (all-won plan h refl most (having-is U (weight g) h) on-heaviest on-attracted on-rest att (all-mine o) (rest .2 .won p l)))
@@ -145,12 +172,16 @@ each-is-won s g r = (sides, a .1, a .1, below, solves-wins r whole-answer 0 (ome
   where
     a : Answer g (whole g)
     a = answer s g r (length g) (whole g) (whole-subgame r) (size-most (whole g) (length g))
+
     sides : ℕ → ℕ
     sides = merge (whole g) (a .0) (λ m. 0)
+
     in-whole : (n : ℕ) → In (whole g) n → sides n ≡ a .0 n
     in-whole n x = merge-in (whole g) (a .0) (λ m. 0) n x
+
     whole-answer : Solves g (whole g) sides (a .1)
     whole-answer = solves-as sides (a .1) in-whole (λ n x. refl) (a .2)
+
     below : (n : ℕ) → sides n < 2
     below n = go (in-or-out (whole g) n)
       where

@@ -42,15 +42,16 @@ pub record Weighing (v : Places) (l : List ℕ) (from h : ℕ) : Type 0 where
   pub some-place : (g : Game) → Shows v g → ((h ≡ 0) × ((n : ℕ) → n < from → Out (members l) n)) ⊎ ((n : ℕ) × In (members l) n × (weight g n ≡ h))
 
 pub weighing-more : {v : Places} {l : List ℕ} {from h m w r : ℕ} → Weighing v l from h → Least (members l) from m → ((g : Game) → Shows v g → w ≡ weight g m) → r ≡ max h w → Weighing v l (m + 1) r
-weighing-more {v} {l} {from} {h} {m} {w} {r} k least weighs is = record
-  { bound = omega (arith, members-below l m (least .is))
-  ; most = λ g s n x lt. most g s n x lt (cases-eq n m)
-  ; some-place = λ g s. inr (some-place g s (k .some-place g s) (cases-lt h w))
-  }
+weighing-more {v} {l} {from} {h} {m} {w} {r} k least weighs is = record {
+  bound = omega (arith, members-below l m (least .is));
+  most = λ g s n x lt. most g s n x lt (cases-eq n m);
+  some-place = λ g s. inr (some-place g s (k .some-place g s) (cases-lt h w));
+}
   where
     most : (g : Game) → Shows v g → (n : ℕ) → In (members l) n → n < m + 1 → (n ≡ m) ⊎ (n ≡ m → ⊥) → weight g n ≤ r
     most g s n x lt (inl e) = omega (arith, weighs g s, ap (weight g) e)
     most g s n x lt (inr d) = omega (arith, k .most g s n x (before l from n (λ e. least .none n e (omega arith)) x))
+
     some-place : (g : Game) → Shows v g → ((h ≡ 0) × ((n : ℕ) → n < from → Out (members l) n)) ⊎ ((n : ℕ) × In (members l) n × (weight g n ≡ h)) → (h < w) ⊎ (w ≤ h) → (n : ℕ) × In (members l) n × (weight g n ≡ r)
     some-place g s (inl t) c = (m, true-T _ (least .is), omega (arith, t .0, weighs g s))
     some-place g s (inr t) (inl c) = (m, true-T _ (least .is), omega (arith, weighs g s))
@@ -77,65 +78,73 @@ module _ {f : ℕ → ℕ} {k : ℕ} {own left queue : List ℕ} {from count : �
   module _ {m : ℕ} (least : Least (members left) from m) where
     pub gathering-inside : In (members own) m
     gathering-inside = so-far .rest m (true-T _ (least .is))
+
     pub gathering-below : m < 32 * length own
     gathering-below = members-below own m (T-true _ gathering-inside)
+
     pub gathering-room : count < size own
     gathering-room = omega (arith, so-far .counts, some-size left m (least .is))
 
     pub gathering-skip : (f m ≡ k → ⊥) → Gathering f k own left queue (m + 1) count
-    gathering-skip d = record
-      { bound = omega (arith, gathering-below)
-      ; counts = so-far .counts
-      ; rest = so-far .rest
-      ; apart = λ n h e x. so-far .apart n (before left from n (λ l. least .none n l (let t : n ≡ m → ⊥ = λ s. d (sym (ap f s) ∙ e) in omega arith)) x) e x
-      ; covers = λ n x o. let t = so-far .covers n x o in (omega (arith, t .0, least .after), t .1)
-      ; first = so-far .first
-      ; all = so-far .all
-      }
+    gathering-skip d = record {
+      bound = omega (arith, gathering-below);
+      counts = so-far .counts;
+      rest = so-far .rest;
+      apart = λ n h e x. so-far .apart n (before left from n (λ l. least .none n l (let t : n ≡ m → ⊥ = λ s. d (sym (ap f s) ∙ e) in omega arith)) x) e x;
+      covers = λ n x o. let t = so-far .covers n x o in (omega (arith, t .0, least .after), t .1);
+      first = so-far .first;
+      all = so-far .all;
+    }
 
     pub gathering-take : {left′ queue′ : List ℕ} → f m ≡ k → count < length queue → Removed left m left′ → queue′ ≡ set queue count m → Gathering f k own left′ queue′ (m + 1) (count + 1)
-    gathering-take {left′} {queue′} is room rem q = record
-      { bound = omega (arith, gathering-below)
-      ; counts = omega (arith, so-far .counts, rem .shrinks (least .is))
-      ; rest = λ n x. so-far .rest n (removed-within left m left′ rem n x)
-      ; apart = λ n h e x. apart n h e x (cases-eq n m)
-      ; covers = λ n x o. covers n x o (cases-eq n m)
-      ; first = λ j h. first j h (cases-lt j count)
-      ; all = λ n x o. all n x o (cases-eq n m)
-      }
+    gathering-take {left′} {queue′} is room rem q = record {
+      bound = omega (arith, gathering-below);
+      counts = omega (arith, so-far .counts, rem .shrinks (least .is));
+      rest = λ n x. so-far .rest n (removed-within left m left′ rem n x);
+      apart = λ n h e x. apart n h e x (cases-eq n m);
+      covers = λ n x o. covers n x o (cases-eq n m);
+      first = λ j h. first j h (cases-lt j count);
+      all = λ n x o. all n x o (cases-eq n m);
+    }
       where
         front : (j : ℕ) → j < count → getD queue′ j 0 ≡ getD queue j 0
         front j h = ap (λ (l : List ℕ). getD l j 0) q ∙ getD-set-other queue count j m 0 (omega arith)
+
         last : getD queue′ count 0 ≡ m
         last = ap (λ (l : List ℕ). getD l count 0) q ∙ getD-set-same queue count m 0 room
+
         still : (n : ℕ) → (n ≡ m → ⊥) → Out (members left′) n → Out (members left) n
         still n d o x = go (removed-which left m left′ rem n x)
           where
             go : (n ≡ m) ⊎ In (members left′) n → ⊥
             go (inl e) = d e
             go (inr y) = o y
+
         apart : (n : ℕ) → n < m + 1 → f n ≡ k → In (members left′) n → (n ≡ m) ⊎ (n ≡ m → ⊥) → ⊥
         apart n h e x (inl s) = removed-out left m left′ rem (subst (λ (j : ℕ). In (members left′) j) s x)
         apart n h e x (inr d) = let y = removed-within left m left′ rem n x in so-far .apart n (before left from n (λ l. least .none n l (omega arith)) y) e y
+
         covers : (n : ℕ) → In (members own) n → Out (members left′) n → (n ≡ m) ⊎ (n ≡ m → ⊥) → (n < m + 1) × (f n ≡ k)
         covers n x o (inl s) = (omega arith, ap f s ∙ is)
         covers n x o (inr d) = let t = so-far .covers n x (still n d o) in (omega (arith, t .0, least .after), t .1)
+
         first : (j : ℕ) → j < count + 1 → (j < count) ⊎ (count ≤ j) → In (members own) (getD queue′ j 0) × (f (getD queue′ j 0) ≡ k)
         first j h (inl l) = subst (λ (n : ℕ). In (members own) n × (f n ≡ k)) (sym (front j l)) (so-far .first j l)
         first j h (inr l) = subst (λ (n : ℕ). In (members own) n × (f n ≡ k)) (sym (ap (λ (i : ℕ). getD queue′ i 0) (let e : j ≡ count = omega arith in e) ∙ last)) (gathering-inside, is)
+
         all : (n : ℕ) → In (members own) n → Out (members left′) n → (n ≡ m) ⊎ (n ≡ m → ⊥) → Passed queue′ (count + 1) n
         all n x o (inl s) = (count, omega arith, last ∙ sym s)
         all n x o (inr d) = let t = so-far .all n x (still n d o) in (t .0, omega (arith, t .1), front (t .0) (t .1) ∙ t .2)
 
   pub gathering-all : None-from (members left) from → Starts (members own) (having (members own) f k) left queue count
-  gathering-all none = record
-    { rest = so-far .rest
-    ; inside = having-within (members own) f k
-    ; apart = apart
-    ; covers = λ n x o. having-in (members own) f k n x (so-far .covers n x o .1)
-    ; first = λ j h. let t = so-far .first j h in having-in (members own) f k (getD queue j 0) (t .0) (t .1)
-    ; all = λ n x. so-far .all n (having-within (members own) f k n x) (apart n x)
-    }
+  gathering-all none = record {
+    rest = so-far .rest;
+    inside = having-within (members own) f k;
+    apart = apart;
+    covers = λ n x o. having-in (members own) f k n x (so-far .covers n x o .1);
+    first = λ j h. let t = so-far .first j h in having-in (members own) f k (getD queue j 0) (t .0) (t .1);
+    all = λ n x. so-far .all n (having-within (members own) f k n x) (apart n x);
+  }
     where
       apart : (n : ℕ) → In (having (members own) f k) n → Out (members left) n
       apart n x y = so-far .apart n (before left from n (none n) y) (having-is (members own) f k n x) y
@@ -157,52 +166,56 @@ module _ {v : Places} {w h : ℕ} {own out left queue out′ : List ℕ} {from c
         go (inr o) = so-far .gathers g s .covers n (having-within (members own) (weight g) h n y) o .0
 
     pub giving-skip : (x ≡ h → ⊥) → Giving v w h own out left queue out′ (m + 1) count
-    giving-skip d = record
-      { gathers = λ g s. gathering-skip (so-far .gathers g s) least (λ e. d (weighs g s ∙ e))
-      ; frame = so-far .frame
-      ; labelled = λ g s n l y. so-far .labelled g s n (earlier g s n (other g s n l y) y) y
-      ; stays = λ g s n l y. so-far .stays g s n (earlier g s n (other g s n l y) y) y
-      }
+    giving-skip d = record {
+      gathers = λ g s. gathering-skip (so-far .gathers g s) least (λ e. d (weighs g s ∙ e));
+      frame = so-far .frame;
+      labelled = λ g s n l y. so-far .labelled g s n (earlier g s n (other g s n l y) y) y;
+      stays = λ g s n l y. so-far .stays g s n (earlier g s n (other g s n l y) y) y;
+    }
       where
         other : (g : Game) → Shows v g → (n : ℕ) → n < m + 1 → In (having (members own) (weight g) h) n → n < m
         other g s n l y =
-          let d′ : n ≡ m → ⊥ = λ e. d (weighs g s ∙ sym (ap (weight g) e) ∙ having-is (members own) (weight g) h n y) in
-          omega arith
+            let d′ : n ≡ m → ⊥ = λ e. d (weighs g s ∙ sym (ap (weight g) e) ∙ having-is (members own) (weight g) h n y) in
+            omega arith
 
     pub giving-take : {left′ queue′ out″ : List ℕ} → x ≡ h → count < length queue → 2 * m + 1 < length out′ → In (members own) m → ((g : Game) → Shows v g → m < length g) → Taken v w m (members own) count left queue out′ left′ queue′ out″ → Giving v w h own out left′ queue′ out″ (m + 1) (count + 1)
-    giving-take {left′} {queue′} {out″} is space room mine inside t = record
-      { gathers = λ g s. gathering-take (so-far .gathers g s) least (sym (weighs g s) ∙ is) space (t .left-is) (t .queue-is)
-      ; frame = λ n o.
+    giving-take {left′} {queue′} {out″} is space room mine inside t = record {
+      gathers = λ g s. gathering-take (so-far .gathers g s) least (sym (weighs g s) ∙ is) space (t .left-is) (t .queue-is);
+      frame = λ n o.
           let a = so-far .frame n o in
           let b = same n (λ e. o (subst (λ (j : ℕ). In (members own) j) (sym e) mine)) in
-          (b .0 ∙ a .0, b .1 ∙ a .1)
-      ; labelled = λ g s n l y. labelled g s n l y (cases-eq n m)
-      ; stays = λ g s n l y. stays g s n l y (cases-eq n m)
-      }
+          (b .0 ∙ a .0, b .1 ∙ a .1);
+      labelled = λ g s n l y. labelled g s n l y (cases-eq n m);
+      stays = λ g s n l y. stays g s n l y (cases-eq n m);
+    }
       where
         same : (n : ℕ) → (n ≡ m → ⊥) → Unchanged out′ out″ n
         same n d = subst (λ (o : List ℕ). Unchanged out′ o n) (sym (t .out-is)) (put-unchanged out′ m w (t .move) room n d)
+
         same-length : length out″ ≡ length out′
         same-length = ap length (t .out-is) ∙ length-set (set out′ (2 * m) w) (2 * m + 1) (t .move) ∙ length-set out′ (2 * m) w
+
         labelled : (g : Game) → Shows v g → (n : ℕ) → n < m + 1 → In (having (members own) (weight g) h) n → (n ≡ m) ⊎ (n ≡ m → ⊥) → side out″ n ≡ w
         labelled g s n l y (inl e) = ap (side out″) e ∙ ap (λ (o : List ℕ). side o m) (t .out-is) ∙ put-side out′ m w (t .move) room
         labelled g s n l y (inr d) = same-side out′ out″ n same-length (same n d) ∙ so-far .labelled g s n (earlier g s n (omega arith) y) y
+
         stays : (g : Game) → Shows v g → (n : ℕ) → n < m + 1 → In (having (members own) (weight g) h) n → (n ≡ m) ⊎ (n ≡ m → ⊥) → Stays g (members own) n (goes out″ n)
         stays g s n l y (inl e) =
-          subst (λ (j : ℕ). Stays g (members own) j (goes out″ j)) (sym e)
+            subst (λ (j : ℕ). Stays g (members own) j (goes out″ j)) (sym e)
             (subst (Stays g (members own) m) (sym (ap (λ (o : List ℕ). goes o m) (t .out-is) ∙ put-goes out′ m w (t .move) room)) (t .stays g s (inside g s)))
         stays g s n l y (inr d) = subst (Stays g (members own) n) (sym (unchanged-goes out′ out″ n (same n d))) (so-far .stays g s n (earlier g s n (omega arith) y) y)
 
   pub giving-all : None-from (members left) from → (g : Game) → Shows v g → Gathered g (members own) w h left queue out′ count
-  giving-all none g s = record
-    { starts = starts
-    ; labelled = λ n y. so-far .labelled g s n (below n y) y
-    ; moves = λ sub n y.
+  giving-all none g s = record {
+    starts = starts;
+    labelled = λ n y. so-far .labelled g s n (below n y) y;
+    moves = λ sub n y.
         let t = sub .goes-on n (having-within (members own) (weight g) h n y) in
-        so-far .stays g s n (below n y) y (t .0) (t .1) (t .2)
-    }
+        so-far .stays g s n (below n y) y (t .0) (t .1) (t .2);
+  }
     where
       starts : Starts (members own) (having (members own) (weight g) h) left queue count
       starts = gathering-all (so-far .gathers g s) none
+
       below : (n : ℕ) → In (having (members own) (weight g) h) n → n < from
       below n y = so-far .gathers g s .covers n (having-within (members own) (weight g) h n y) (starts .apart n y) .0

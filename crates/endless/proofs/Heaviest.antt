@@ -17,7 +17,8 @@ descend g f none zero m h = omega (arith, h m (omega arith))
 descend g f none (suc b) m h = none b (record {
   from = m;
   none-heavier = λ i l. omega (arith, h i l);
-  never-last = λ i gone. descend g f none b (max m i) (λ j l. omega (arith, h j (omega arith), gone j (omega arith))) })
+  never-last = λ i gone. descend g f none b (max m i) (λ j l. omega (arith, h j (omega arith), gone j (omega arith)));
+})
 
 pub some-heaviest : Some-heaviest
 some-heaviest s g f r p none = descend g f none 256 0 (λ i l. weight-below r (f i))
@@ -27,9 +28,9 @@ some-heaviest-found ends s g f r p none = some-heaviest s g f r p (λ k h. none 
   where
     found : (k : ℕ) → Weakly-heaviest g f k → (i : ℕ) → (j : ℕ) × (i ≤ j) × (weight g (f j) ≡ k)
     found k h i =
-      let t = ends (λ j. leb i j && eqb (weight g (f j)) k) (λ no-j. h .never-last i (λ j l e. no-j j (from-both (leb i j) (eqb (weight g (f j)) k) (le→leb i j l) (from-eq (weight g (f j)) k e)))) in
-      let c = both (leb i (t .0)) (eqb (weight g (f (t .0))) k) (t .1) in
-      (t .0, leb→le i (t .0) (c .0), eqb→eq (weight g (f (t .0))) k (c .1))
+        let t = ends (λ j. leb i j && eqb (weight g (f j)) k) (λ no-j. h .never-last i (λ j l e. no-j j (from-both (leb i j) (eqb (weight g (f j)) k) (le→leb i j l) (from-eq (weight g (f j)) k e)))) in
+        let c = both (leb i (t .0)) (eqb (weight g (f (t .0))) k) (t .1) in
+        (t .0, leb→le i (t .0) (c .0), eqb→eq (weight g (f (t .0))) k (c .1))
 
 pub plan-wins : Plan-wins
 plan-wins s g w plan won f k r l wins x p b h = heaviest-kind g w plan f k p b (λ i ns c. rounds-are-won s g w plan won (f i) ns r l wins (stays g w plan (λ n. T (won n)) (wins .may) (wins .held) f p b x i) c) h

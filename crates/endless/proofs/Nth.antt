@@ -11,6 +11,7 @@ pub nth-in : {A : Type 0} (l : List A) (i : ℕ) (d : A) → i < length l → nt
 nth-in [] i d h = absurd (omega arith)
 nth-in (x ∷ xs) zero d h = refl
 nth-in (x ∷ xs) (suc i) d h = nth-in xs i d (omega arith)
+
 pub nth-out : {A : Type 0} (l : List A) (i : ℕ) → length l ≤ i → nth l i ≡ none
 nth-out [] i h = refl
 nth-out (x ∷ xs) zero h = absurd (omega arith)

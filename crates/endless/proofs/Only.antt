@@ -25,8 +25,10 @@ only-answer s g sides a b w plan won n r two wa wb l wins h x = go (sides n) ref
   where
     told : (v : ℕ) (σ : ℕ → ℕ) → Wins-from g v σ (λ m. (m < length g) × (sides m ≡ v)) → Wins-from g v σ (λ m. In (having (whole g) sides v) m)
     told v σ wv = wins-as g v σ (λ m. (m < length g) × (sides m ≡ v)) (λ m. In (having (whole g) sides v) m) (λ m t. having-in (whole g) sides v m (whole-in g m (t .0)) (t .1)) (λ m y. (whole-place g m (having-within (whole g) sides v m y), having-is (whole g) sides v m y)) wv
+
     one : (v : ℕ) (σ : ℕ → ℕ) → v < 2 → sides n ≡ v → Wins-from g v σ (λ m. (m < length g) × (sides m ≡ v)) → v ≡ w
     one v σ lv e wv = one-side s g v w σ plan (having (whole g) sides v) won n r lv l (told v σ wv) wins (having-in (whole g) sides v n (whole-in g n h) e) x
+
     go : (v : ℕ) → sides n ≡ v → sides n < 2 → sides n ≡ w
     go zero e lv = omega (arith, e, one 0 a (omega arith) e wa)
     go (suc zero) e lv = omega (arith, e, one 1 b (omega arith) e wb)

@@ -37,13 +37,15 @@ pigeonhole (suc n) f h = step (pigeonhole n) (search-below {P = λ i. f i ≡ f 
     -- the value that is too large gives way to the last one
     e : ℕ → ℕ
     e i = cond (eqb (f i) n) (f (suc n)) (f i)
+
     less : ((i : ℕ) → i < suc n → f i ≡ f (suc n) → ⊥) → (i : ℕ) → i ≤ n → e i < n
     less d i l = let a = h i (omega arith) in let b = h (suc n) (omega arith) in let c = d i (omega arith) in grind (arith, tells)
+
     step : ((f : ℕ → ℕ) → ((i : ℕ) → i ≤ n → f i < n) → Twice n f) → ((i : ℕ) × (i < suc n) × (f i ≡ f (suc n))) ⊎ ((i : ℕ) → i < suc n → f i ≡ f (suc n) → ⊥) → Twice (suc n) f
     step ih (inl t) = (t .0, suc n, omega arith, omega arith, t .2)
     step ih (inr d) =
-      let t = ih e (less d) in
-      let c = d (t .0) (omega arith) in
-      let c′ = d (t .1) (omega arith) in
-      let s : e (t .0) ≡ e (t .1) = t .4 in
-      (t .0, t .1, t .2, omega arith, grind (arith, tells))
+        let t = ih e (less d) in
+        let c = d (t .0) (omega arith) in
+        let c′ = d (t .1) (omega arith) in
+        let s : e (t .0) ≡ e (t .1) = t .4 in
+        (t .0, t .1, t .2, omega arith, grind (arith, tells))

@@ -26,22 +26,22 @@ length-some (x ∷ xs) h = tt
 
 pub ok-parts : (n : ℕ) (p : Place) (ps : List Place) → T (ok-ps n (p ∷ ps)) → Fine n p × T (ok-ps n ps)
 ok-parts n p ps t =
-  let a = both (ltb (p .whose) 2 && ltb (p .weight) 256) ((some-of (p .moves) && below n (p .moves)) && ok-ps n ps) t in
-  let b = both (ltb (p .whose) 2) (ltb (p .weight) 256) (a .0) in
-  let c = both (some-of (p .moves) && below n (p .moves)) (ok-ps n ps) (a .1) in
-  let d = both (some-of (p .moves)) (below n (p .moves)) (c .0) in
-  (record { side = ltb→lt (p .whose) 2 (b .0); light = ltb→lt (p .weight) 256 (b .1); moving = some-length (p .moves) (d .0); inside = d .1 }, c .1)
+    let a = both (ltb (p .whose) 2 && ltb (p .weight) 256) ((some-of (p .moves) && below n (p .moves)) && ok-ps n ps) t in
+    let b = both (ltb (p .whose) 2) (ltb (p .weight) 256) (a .0) in
+    let c = both (some-of (p .moves) && below n (p .moves)) (ok-ps n ps) (a .1) in
+    let d = both (some-of (p .moves)) (below n (p .moves)) (c .0) in
+    (record { side = ltb→lt (p .whose) 2 (b .0); light = ltb→lt (p .weight) 256 (b .1); moving = some-length (p .moves) (d .0); inside = d .1 }, c .1)
 
 pub ok-from : (n : ℕ) (p : Place) (ps : List Place) → Fine n p → T (ok-ps n ps) → T (ok-ps n (p ∷ ps))
 ok-from n p ps f t =
-  from-both _ _ (from-both _ _ (lt→ltb (p .whose) 2 (f .side)) (lt→ltb (p .weight) 256 (f .light))) (from-both _ _ (from-both _ _ (length-some (p .moves) (f .moving)) (f .inside)) t)
+    from-both _ _ (from-both _ _ (lt→ltb (p .whose) 2 (f .side)) (lt→ltb (p .weight) 256 (f .light))) (from-both _ _ (from-both _ _ (length-some (p .moves) (f .moving)) (f .inside)) t)
 
 -- a game has 1 to 16,384 places, and each fits in it
 pub ok-size : (s : List ℕ) (g : Game) → Reads s g → (1 ≤ length g) × (length g ≤ 16384) × T (ok-ps (length g) g)
 ok-size s g r =
-  let a = both (leb 1 (length g)) (leb (length g) 16384 && ok-ps (length g) g) (r .fine) in
-  let b = both (leb (length g) 16384) (ok-ps (length g) g) (a .1) in
-  (leb→le 1 (length g) (a .0), leb→le (length g) 16384 (b .0), b .1)
+    let a = both (leb 1 (length g)) (leb (length g) 16384 && ok-ps (length g) g) (r .fine) in
+    let b = both (leb (length g) 16384) (ok-ps (length g) g) (a .1) in
+    (leb→le 1 (length g) (a .0), leb→le (length g) 16384 (b .0), b .1)
 
 pub among-below : (k : ℕ) (xs : List ℕ) (m : ℕ) → T (below k xs) → Among m xs → m < k
 among-below k [] m t a = elim a [ ]
@@ -62,11 +62,11 @@ record Sound (k : ℕ) (g : Game) (n : ℕ) : Type 0 where
 sound : (k : ℕ) (g : Game) (n : ℕ) → T (ok-ps k g) → Sound k g n
 sound k [] n t = record { side-below = omega arith; weight-below = omega arith; move-below = λ m a. elim a [ ]; has-move = λ h. absurd (omega arith) }
 sound k (p ∷ ps) zero t =
-  let f = ok-parts k p ps t .0 in
-  record { side-below = f .side; weight-below = f .light; move-below = λ m x. among-below k (p .moves) m (f .inside) x; has-move = λ h. one-of (p .moves) (f .moving) }
+    let f = ok-parts k p ps t .0 in
+    record { side-below = f .side; weight-below = f .light; move-below = λ m x. among-below k (p .moves) m (f .inside) x; has-move = λ h. one-of (p .moves) (f .moving) }
 sound k (p ∷ ps) (suc n) t =
-  let s = sound k ps n (ok-parts k p ps t .1) in
-  record { side-below = s .side-below; weight-below = s .weight-below; move-below = s .move-below; has-move = λ h. s .has-move (omega arith) }
+    let s = sound k ps n (ok-parts k p ps t .1) in
+    record { side-below = s .side-below; weight-below = s .weight-below; move-below = s .move-below; has-move = λ h. s .has-move (omega arith) }
 
 at : (s : List ℕ) (g : Game) → Reads s g → (n : ℕ) → Sound (length g) g n
 at s g r n = sound (length g) g n (ok-size s g r .2)

@@ -38,6 +38,7 @@ front-some g (suc d) f = go (front-some g d (λ i. f (suc i))) (cases-lt (weight
   where
     rest : ℕ
     rest = heaviest g (front (λ i. f (suc i)) d)
+
     go : (e : ℕ) × (e ≤ d) × (weight g (f (suc e)) ≡ rest) → (weight g (f 0) < rest) ⊎ (rest ≤ weight g (f 0)) → (e : ℕ) × (e ≤ suc d) × (weight g (f e) ≡ max (weight g (f 0)) rest)
     go t (inl l) = (suc (t .0), omega (arith, t .1), omega (arith, t .2))
     go t (inr l) = (0, omega arith, omega arith)
@@ -54,7 +55,7 @@ from-by g w plan f j b i e = ap f (add-suc j i) ∙ b (j + i) e
 
 -- what a plan holds, a play by it never leaves
 pub stays : (g : Game) (w : ℕ) (plan : ℕ → ℕ) (won : ℕ → Type 0) → ((n : ℕ) → won n → whose g n ≡ w → May g n (plan n) × won (plan n)) → ((n m : ℕ) → won n → (whose g n ≡ w → ⊥) → May g n m → won m) →
-  (f : Play) → Plays g f → By-plan g w plan f → won (f 0) → (i : ℕ) → won (f i)
+    (f : Play) → Plays g f → By-plan g w plan f → won (f 0) → (i : ℕ) → won (f i)
 stays g w plan won may held f p b z zero = z
 stays g w plan won may held f p b z (suc i) = go (cases-eq (whose g (f i)) w) (stays g w plan won may held f p b z i)
   where
@@ -65,21 +66,21 @@ stays g w plan won may held f p b z (suc i) = go (cases-eq (whose g (f i)) w) (s
 -- a stretch that comes back to where it began is a round
 pub back-round : (g : Game) (w : ℕ) (plan : ℕ → ℕ) (f : Play) (i j : ℕ) → Plays g f → By-plan g w plan f → i < j → f i ≡ f j → Round g w plan (f i) (front (from i f) (j - suc i)) (f i)
 back-round g w plan f i j p b l e =
-  let d : ℕ = j - suc i in
-  let r = front-round g w plan d (from i f) (from-plays g f i p) (from-by g w plan f i b) in
-  let a : i + 0 ≡ i = add-zero i in
-  let z : i + suc d ≡ j = omega arith in
-  let r′ = subst (λ (x : ℕ). Round g w plan (f x) (front (from i f) d) (f (i + suc d))) a r in
-  subst (λ (x : ℕ). Round g w plan (f i) (front (from i f) d) x) (ap f z ∙ sym e) r′
+    let d : ℕ = j - suc i in
+    let r = front-round g w plan d (from i f) (from-plays g f i p) (from-by g w plan f i b) in
+    let a : i + 0 ≡ i = add-zero i in
+    let z : i + suc d ≡ j = omega arith in
+    let r′ = subst (λ (x : ℕ). Round g w plan (f x) (front (from i f) d) (f (i + suc d))) a r in
+    subst (λ (x : ℕ). Round g w plan (f i) (front (from i f) d) x) (ap f z ∙ sym e) r′
 
 -- from a moment on nothing is heavier than at it: where the play comes back to it is a round with that as the heaviest
 heavy-round : (g : Game) (w : ℕ) (plan : ℕ → ℕ) (f : Play) (k i j : ℕ) → Plays g f → By-plan g w plan f → ((x : ℕ) → i ≤ x → weight g (f x) ≤ k) → weight g (f i) ≡ k → i < j → f i ≡ f j → (ns : List ℕ) × Round g w plan (f i) ns (f i) × (heaviest g ns ≡ k)
 heavy-round g w plan f k i j p b most here l e =
-  let d : ℕ = j - suc i in
-  let up : heaviest g (front (from i f) d) ≤ k = front-most g k d (from i f) (λ x. most (i + x) (omega arith)) in
-  let down : weight g (f (i + 0)) ≤ heaviest g (front (from i f) d) = front-each g d 0 (from i f) (omega arith) in
-  let a : weight g (f (i + 0)) ≡ k = ap (λ (x : ℕ). weight g (f x)) (add-zero i) ∙ here in
-  (front (from i f) d, back-round g w plan f i j p b l e, omega arith)
+    let d : ℕ = j - suc i in
+    let up : heaviest g (front (from i f) d) ≤ k = front-most g k d (from i f) (λ x. most (i + x) (omega arith)) in
+    let down : weight g (f (i + 0)) ≤ heaviest g (front (from i f) d) = front-each g d 0 (from i f) (omega arith) in
+    let a : weight g (f (i + 0)) ≡ k = ap (λ (x : ℕ). weight g (f x)) (add-zero i) ∙ here in
+    (front (from i f) d, back-round g w plan f i j p b l e, omega arith)
 
 pub weakly : (g : Game) (f : Play) (k : ℕ) → Heaviest g f k → Weakly-heaviest g f k
 weakly g f k h = record { from = h .from; none-heavier = h .none-heavier; never-last = λ i none. let t = h .again i in none (t .0) (t .1) (t .2) }
@@ -90,18 +91,20 @@ heaviest-kind g w plan f k p b rounds h = go (cases-eq (k % 2) w)
   where
     once : (k % 2 ≡ w → ⊥) → (i j : ℕ) → h .from ≤ i → weight g (f i) ≡ k → i < j → f i ≡ f j → ⊥
     once d i j l e m s =
-      let t = heavy-round g w plan f k i j p b (λ x y. h .none-heavier x (omega arith)) e m s in
-      d (ap (λ (y : ℕ). y % 2) (sym (t .2)) ∙ rounds i (t .0) (t .1))
+        let t = heavy-round g w plan f k i j p b (λ x y. h .none-heavier x (omega arith)) e m s in
+        d (ap (λ (y : ℕ). y % 2) (sym (t .2)) ∙ rounds i (t .0) (t .1))
+
     -- a moment after which no place of weight k below a bound comes
     gone : (k % 2 ≡ w → ⊥) → (bound : ℕ) → ((m : ℕ) → h .from ≤ m → ((j : ℕ) → m ≤ j → f j < bound → weight g (f j) ≡ k → ⊥) → ⊥) → ⊥
     gone d zero c = c (h .from) (omega arith) (λ j l x. absurd (omega arith))
     gone d (suc bound) c = gone d bound (λ m l none.
-      let new : (j : ℕ) → m ≤ j → f j < suc bound → weight g (f j) ≡ k → f j ≡ bound = λ j y x e. is-last j (none j y) x e (cases-eq (f j) bound) in
-      c m l (λ j y x e. c (suc j) (omega arith) (λ i z u v. once d j i (omega arith) e z (new j y x e ∙ sym (new i (omega arith) u v)))))
+        let new : (j : ℕ) → m ≤ j → f j < suc bound → weight g (f j) ≡ k → f j ≡ bound = λ j y x e. is-last j (none j y) x e (cases-eq (f j) bound) in
+        c m l (λ j y x e. c (suc j) (omega arith) (λ i z u v. once d j i (omega arith) e z (new j y x e ∙ sym (new i (omega arith) u v)))))
       where
         is-last : (j : ℕ) → (f j < bound → weight g (f j) ≡ k → ⊥) → f j < suc bound → weight g (f j) ≡ k → (f j ≡ bound) ⊎ (f j ≡ bound → ⊥) → f j ≡ bound
         is-last j none x e (inl q) = q
         is-last j none x e (inr q) = absurd (none (omega arith) e)
+
     go : (k % 2 ≡ w) ⊎ (k % 2 ≡ w → ⊥) → k % 2 ≡ w
     go (inl e) = e
     go (inr d) = absurd (gone d (length g) (λ m l none. h .never-last m (λ j y e. none j y (from-place g (f j) (f (suc j)) (p j)) e)))
@@ -111,5 +114,6 @@ rounds-win s g w plan won r l may held rounds = record {
   may = may;
   held = held;
   not-lost = λ f z p b x.
-    let in-won = stays g w plan (λ n. T (won n)) may held f p b z in
-    not-other w (x .0 % 2) l (heaviest-kind g w plan f (x .0) p b (λ i ns c. rounds (f i) ns (in-won i) c) (weakly g f (x .0) (x .1))) (x .2) }
+      let in-won = stays g w plan (λ n. T (won n)) may held f p b z in
+      not-other w (x .0 % 2) l (heaviest-kind g w plan f (x .0) p b (λ i ns c. rounds (f i) ns (in-won i) c) (weakly g f (x .0) (x .1))) (x .2);
+}

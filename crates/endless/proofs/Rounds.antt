@@ -65,4 +65,4 @@ rounds-are-won s g w plan won n ns r l wins x whole = go (cases-eq (heaviest g n
     go : (heaviest g ns % 2 ≡ w) ⊎ (heaviest g ns % 2 ≡ w → ⊥) → heaviest g ns % 2 ≡ w
     go (inl e) = e
     go (inr e) = absurd (wins .not-lost (again whole n whole) x (λ i. again-plays g w plan n ns whole i n ns whole) (λ i. again-by g w plan n ns whole i n ns whole)
-      (heaviest g ns, again-heaviest g w plan n ns whole, is-other w (heaviest g ns % 2) l (omega arith) e))
+        (heaviest g ns, again-heaviest g w plan n ns whole, is-other w (heaviest g ns % 2) l (omega arith) e))

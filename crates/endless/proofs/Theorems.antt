@@ -14,5 +14,6 @@ use Rattle.endless.proofs.Cases.{three-places}
 
 pub parts : Parts
 parts = record { p1 = one-game; p2 = not-both; p3 = each-is-won; p4 = one-wins; p5 = rounds-are-won; p6 = rounds-win }
+
 pub further : Further
 further = record { only-answer = only-answer; some-heaviest = some-heaviest; some-heaviest-found = some-heaviest-found; plan-wins = plan-wins; winner-wins = winner-wins; lent-is-enough = lent-is-enough; levels-fall = levels-fall; example = three-places }

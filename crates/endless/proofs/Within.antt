@@ -22,8 +22,8 @@ module _ (g : Game) (w : ℕ) (plan : ℕ → ℕ) (P : ℕ → Type 0) where
     pub carried : (n : ℕ) (ns : List ℕ) (k : ℕ) → Round g w plan n ns k → Each P ns → P k → In X n → Each (In X) ns × In X k
     carried n ns k (last a b) x z y = ((y, tt), step n k (x .0) z a b y)
     carried n (ms) k (then1 {m = m} {ns = ns} a b r) x z y =
-      let t = carried m ns k r (x .1) z (step n m (x .0) (first-of m ns k r (x .1)) a b y) in
-      ((y, t .0), t .1)
+        let t = carried m ns k r (x .1) z (step n m (x .0) (first-of m ns k r (x .1)) a b y) in
+        ((y, t .0), t .1)
 
     entered : (n : ℕ) (ns : List ℕ) (k : ℕ) → Round g w plan n ns k → Each P ns → P k → Each (Out X) ns ⊎ In X k
     entered n ns k (last a b) x z = go (in-or-out X n)

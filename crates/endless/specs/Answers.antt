@@ -16,6 +16,7 @@ use Rattle.std.specs.declared.option.Option.the-variants.{Some, None}
 abbrev pub WinnerIs : List ℕ → ℕ → Option Winner → Type 0
 WinnerIs o n (Some w) = side o n ≡ number (w .0)
 WinnerIs o n None = 2 ≤ side o n
+
 -- where the plan goes from place n, or that the answer ends before
 abbrev pub PlanIs : List ℕ → ℕ → Option PlaceId → Type 0
 PlanIs o n (Some m) = nth o (2 * n + 1) ≡ some (m .0)

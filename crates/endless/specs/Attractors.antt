@@ -25,13 +25,16 @@ pub record Attracting (g : Game) (U : Set) (w : ℕ) (D A : Set) (plan rank : �
 pub record Closed-under (g : Game) (U : Set) (w : ℕ) (B : Set) : Type 0 where
   pub own : (n m : ℕ) → In U n → whose g n ≡ w → May g n m → In B m → In B n
   pub forced : (n : ℕ) → In U n → (whose g n ≡ w → ⊥) → ((m : ℕ) → May g n m → In U m → In B m) → In B n
+
 -- no such set that holds the targets leaves out a place of A
 abbrev pub Least : Game → Set → ℕ → Set → Set → Type 0
 Least g U w D A = (B : Set) → Within D B → Closed-under g U w B → Within A B
+
 -- in plays: a play that stays in U and goes by the plan comes from A to a target, within as many moves as the rank says
 abbrev pub Brings : Game → Set → ℕ → Set → Set → (ℕ → ℕ) → (ℕ → ℕ) → Type 0
 Brings g U w D A plan rank = (f : Play) → ((i : ℕ) → In U (f i)) → Plays g f → By-plan g w plan f → In A (f 0) → (i : ℕ) × (i ≤ rank (f 0)) × In D (f i)
+
 -- and the other side has a plan that may be gone by outside A and by which no play that stays in U ever comes to A
 abbrev pub Keeps-out : Game → Set → ℕ → Set → Type 0
 Keeps-out g U w A = (reply : ℕ → ℕ) × ((n : ℕ) → In U n → Out A n → whose g n ≡ other w → May g n (reply n) × In U (reply n)) ×
-  ((f : Play) → ((i : ℕ) → In U (f i)) → Plays g f → By-plan g (other w) reply f → Out A (f 0) → (i : ℕ) → Out A (f i))
+    ((f : Play) → ((i : ℕ) → In U (f i)) → Plays g f → By-plan g (other w) reply f → Out A (f 0) → (i : ℕ) → Out A (f i))

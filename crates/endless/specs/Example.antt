@@ -8,12 +8,15 @@ use Rattle.endless.specs.Says.{Wins-from, Round, heaviest, side, goes}
 -- 0: side 0's, weight 1, to 1 or 2; 1: side 1's, weight 2, to 0; 2: side 1's, weight 3, to 0 or itself
 unfoldable pub three : Game
 three = record { whose = 0; weight = 1; moves = 1 ∷ 2 ∷ [] } ∷ record { whose = 1; weight = 2; moves = 0 ∷ [] } ∷ record { whose = 1; weight = 3; moves = 0 ∷ 2 ∷ [] } ∷ []
+
 -- side 0 wins from 0, by going to 1, and from 1; side 1 wins from 2, by staying there
 unfoldable pub answer : List ℕ
 answer = 0 ∷ 1 ∷ 0 ∷ 0 ∷ 1 ∷ 2 ∷ []
+
 -- an answer that is wrong: it gives place 2 to side 0
 unfoldable pub wrong : List ℕ
 wrong = 0 ∷ 1 ∷ 0 ∷ 0 ∷ 0 ∷ 2 ∷ []
+
 -- the places that an answer for three places gives to a side
 abbrev pub Told : List ℕ → ℕ → ℕ → Type 0
 Told o w n = (n < 3) × (side o n ≡ w)

@@ -13,6 +13,7 @@ pub record Begins (s : List ℕ) (h : Head) : Type 0 where
   pub is : s ≡ number (h .whose) ∷ h .weight ∷ h .moves ∷ rest
   pub light : h .weight < 256
   pub moving : 1 ≤ h .moves
+
 -- the head that the words begin with, or that they begin with none
 abbrev pub HeadIs : List ℕ → Option Head → Type 0
 HeadIs s (Some h) = Begins s h

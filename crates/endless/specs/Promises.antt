@@ -20,6 +20,7 @@ pub record Parts : Type 0 where
   pub p4 : One-wins
   pub p5 : Rounds-are-won
   pub p6 : Rounds-win
+
 -- further: the answer is the only one, and that no play is lost is not said of nothing; the lent words are enough, and each level is above fewer; and the worked example
 pub record Further : Type 0 where
   pub only-answer : Only-answer
@@ -42,9 +43,11 @@ SolvedSays s o o′ Done = (g : Game) × Reads s g × (2 * length g ≤ length o
 SolvedSays s o o′ OutFull = (g : Game) × Reads s g × (length o < 2 * length g) × (o′ ≡ o)
 SolvedSays s o o′ NoGame = ((g : Game) → Reads s g → ⊥) × (o′ ≡ o)
 SolvedSays s o o′ Few = o′ ≡ o
+
 -- whatever plan wins for a side, from wherever, wins only places that the answer gives to that side
 abbrev pub Only : List ℕ → List ℕ → Solved → Type 0
 Only s o′ r = r ≡ Done → (g : Game) (w : ℕ) (plan : ℕ → ℕ) (won : ℕ → Bool) (n : ℕ) → Reads s g → w < 2 → Wins-from g w plan (λ m. T (won m)) → n < length g → T (won n) → side o′ n ≡ w
+
 pub record SolvedPost (s : List ℕ) (w : ℕ) (o o′ : List ℕ) (r : Solved) : Type 0 where
   pub says : SolvedSays s o o′ r
   pub parts : Parts

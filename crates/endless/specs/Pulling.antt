@@ -38,6 +38,7 @@ pub record Escapes (g : Game) (n : ℕ) (left : List ℕ) (r : Bool) : Type 0 wh
 -- the places before an index of the queue
 abbrev pub Passed : List ℕ → ℕ → ℕ → Type 0
 Passed q head n = (j : ℕ) × (j < head) × (getD q j 0 ≡ n)
+
 -- the state of the work: what is left of U as bits, the queue, gone through up to `head` and filled up to `tail`, and the answer so far; ns are yet to be looked at
 pub record Working (g : Game) (U : Set) (w : ℕ) (D : Set) (left queue out : List ℕ) (head tail : ℕ) (ns : List ℕ) : Type 0 where
   pub order : head ≤ tail
@@ -52,19 +53,22 @@ pub record Stayed (v : Graph) (w from : ℕ) (left queue out left′ queue′ ou
   pub queue-is : queue′ ≡ queue
   pub out-is : out′ ≡ out
   pub why : (g : Game) → Graphs v g → from < length g → Out (members left) from ⊎ ((whose g from ≡ w → ⊥) × ((m : ℕ) × May g from m × In (members left) m))
+
 pub record Came (v : Graph) (w from to tail : ℕ) (left queue out left′ queue′ out′ : List ℕ) : Type 0 where
   pub was : In (members left) from
   pub left-is : Removed left from left′
   pub queue-is : queue′ ≡ set queue tail from
   pub out-is : out′ ≡ set (set out (2 * from) w) (2 * from + 1) to
   pub why : (g : Game) → Graphs v g → from < length g → (whose g from ≡ w → ⊥) → (m : ℕ) → May g from m → In (members left) m → ⊥
+
 abbrev pub Pulled : Graph → ℕ → ℕ → ℕ → ℕ → List ℕ → List ℕ → List ℕ → List ℕ → List ℕ → List ℕ → ℕ → Type 0
 Pulled v w from to tail left queue out left′ queue′ out′ r =
-  ((r ≡ tail) × Stayed v w from left queue out left′ queue′ out′) ⊎ ((r ≡ tail + 1) × Came v w from to tail left queue out left′ queue′ out′)
+    ((r ≡ tail) × Stayed v w from left queue out left′ queue′ out′) ⊎ ((r ≡ tail + 1) × Came v w from to tail left queue out left′ queue′ out′)
 
 -- what a place's words of an answer are is unchanged
 abbrev pub Unchanged : List ℕ → List ℕ → ℕ → Type 0
 Unchanged out out′ n = (getD out′ (2 * n) 0 ≡ getD out (2 * n) 0) × (getD out′ (2 * n + 1) 0 ≡ getD out (2 * n + 1) 0)
+
 -- places went from what is left to the end of the queue: as many as are missing; nothing else of the queue or of the answer changed
 pub record Moved (left queue out : List ℕ) (tail : ℕ) (left′ queue′ out′ : List ℕ) (tail′ : ℕ) : Type 0 where
   pub counts : tail′ + size left′ ≡ tail + size left
@@ -77,7 +81,7 @@ pub record Moved (left queue out : List ℕ) (tail : ℕ) (left′ queue′ out�
 -- all that may move to a place of the attractor has been looked at
 abbrev pub Looked : Graph → ℕ → ℕ → List ℕ → List ℕ → List ℕ → ℕ → List ℕ → List ℕ → List ℕ → ℕ → Type 0
 Looked v w to left queue out tail left′ queue′ out′ tail′ = (g : Game) (U D : Set) (head : ℕ) → Graphs v g → to < length g → In U to → Out (members left) to →
-  Working g U w D left queue out head tail (sources 0 g to) → Working g U w D left′ queue′ out′ head tail′ []
+    Working g U w D left queue out head tail (sources 0 g to) → Working g U w D left′ queue′ out′ head tail′ []
 
 -- before the first: the targets D stand in the queue, and the rest of U is left
 pub record Starts (U D : Set) (left queue : List ℕ) (targets : ℕ) : Type 0 where
@@ -87,6 +91,7 @@ pub record Starts (U D : Set) (left queue : List ℕ) (targets : ℕ) : Type 0 w
   pub covers : (n : ℕ) → In U n → Out (members left) n → In D n
   pub first : (j : ℕ) → j < targets → In D (getD queue j 0)
   pub all : (n : ℕ) → In D n → Passed queue targets n
+
 -- after the last: what is no longer left is the attractor, by the answer's moves; it stands in the queue, and is given to the side
 pub record Attracts (g : Game) (U : Set) (w : ℕ) (D : Set) (left queue out : List ℕ) (tail : ℕ) : Type 0 where
   pub rank : ℕ → ℕ

@@ -9,6 +9,7 @@ use Rattle.std.specs.declared.option.Option.the-variants.{Some, None}
 abbrev pub number : Side → ℕ
 number Even = 0
 number Odd = 1
+
 -- the side that a word names, or that it names none
 abbrev pub SideIs : ℕ → Option Side → Type 0
 SideIs x (Some w) = x ≡ number w

@@ -47,7 +47,11 @@ fn escapes_from(graph: Graph, place: u32, left: &[u32], escapes: &mut [u32]) -> 
     requires { ⌜ ((g : Game) × Graphs graph g × (place < length g) × (length g ≤ 32 * length (now left)) × (length g ≤ length (now escapes))) ⌝ }
     ensures { λ r. ⌜ ((g : Game) → Graphs (graph .entry) g → place < length g → Escapes g place (now (left .entry)) r) ⌝ }
 {
-    match round_into(graph.places.moves(place), left, escapes[place as usize] as usize) {
+    match round_into(
+        graph.places.moves(place),
+        left,
+        escapes[place as usize] as usize,
+    ) {
         Some(k) => {
             escapes[place as usize] = (k & 0xffff_ffff) as u32;
             true
@@ -60,7 +64,17 @@ fn escapes_from(graph: Graph, place: u32, left: &[u32], escapes: &mut [u32]) -> 
 /// the targets: a place of that side is taken with this move, one of the
 /// other's where no move of it leads into what is left. The number of places
 /// in the queue then.
-fn pull(graph: Graph, side: Side, from: u32, to: u32, left: &mut [u32], out: &mut [u32], queue: &mut [u32], escapes: &mut [u32], tail: usize) -> usize
+fn pull(
+    graph: Graph,
+    side: Side,
+    from: u32,
+    to: u32,
+    left: &mut [u32],
+    out: &mut [u32],
+    queue: &mut [u32],
+    escapes: &mut [u32],
+    tail: usize,
+) -> usize
     requires game { ⌜ ((g : Game) × Graphs graph g × (from < length g) × Sized g (now left) (now out) (now escapes)) ⌝ }
     requires room { ⌜ tail + size (now left) ≤ length (now queue) ⌝ }
     ensures { λ r. ⌜ Pulled (graph .entry) (number side) from to tail (now (left .entry)) (now (queue .entry)) (now (out .entry)) (now (left .exit)) (now (queue .exit)) (now (out .exit)) r ⌝ }
@@ -81,7 +95,16 @@ fn pull(graph: Graph, side: Side, from: u32, to: u32, left: &mut [u32], out: &mu
 }
 
 /// Looks at all places that may move to `to`.
-fn pull_all(graph: Graph, side: Side, to: u32, left: &mut [u32], out: &mut [u32], queue: &mut [u32], escapes: &mut [u32], filled: usize) -> usize
+fn pull_all(
+    graph: Graph,
+    side: Side,
+    to: u32,
+    left: &mut [u32],
+    out: &mut [u32],
+    queue: &mut [u32],
+    escapes: &mut [u32],
+    filled: usize,
+) -> usize
     requires game { ⌜ ((g : Game) × Graphs graph g × (to < length g) × Sized g (now left) (now out) (now escapes)) ⌝ }
     requires room { ⌜ filled + size (now left) ≤ length (now queue) ⌝ }
     ensures moved { λ r. ⌜ Moved (now (left .entry)) (now (queue .entry)) (now (out .entry)) filled (now (left .exit)) (now (queue .exit)) (now (out .exit)) r ⌝ }
@@ -98,7 +121,15 @@ fn pull_all(graph: Graph, side: Side, to: u32, left: &mut [u32], out: &mut [u32]
 /// bring every play to one of the targets, which are the first places of the
 /// queue: they follow there, and the answer gives them to `side`, with a move
 /// for each of its own. The number of places in the queue then.
-pub fn attract(graph: Graph, side: Side, left: &mut [u32], out: &mut [u32], queue: &mut [u32], escapes: &mut [u32], targets: usize) -> usize
+pub fn attract(
+    graph: Graph,
+    side: Side,
+    left: &mut [u32],
+    out: &mut [u32],
+    queue: &mut [u32],
+    escapes: &mut [u32],
+    targets: usize,
+) -> usize
     requires game { ⌜ ((g : Game) × Graphs graph g × Sized g (now left) (now out) (now escapes) × ((n : ℕ) → In (members (now left)) n → n < length g) × ((j : ℕ) → j < targets → getD (now queue) j 0 < length g)) ⌝ }
     requires room { ⌜ targets + size (now left) ≤ length (now queue) ⌝ }
     requires small { ⌜ 32 * length (now left) < 2 ^ 32 ⌝ }

@@ -44,7 +44,16 @@ fn move_within(places: Places, place: u32, set: &[u32]) -> u32
 
 /// Takes a place from what is left into the queue, and gives it to `side`
 /// with a move of it that stays in `own`.
-fn take_place(places: Places, side: Side, place: u32, own: &[u32], left: &mut [u32], out: &mut [u32], queue: &mut [u32], count: usize)
+fn take_place(
+    places: Places,
+    side: Side,
+    place: u32,
+    own: &[u32],
+    left: &mut [u32],
+    out: &mut [u32],
+    queue: &mut [u32],
+    count: usize,
+)
     requires game { ⌜ ((g : Game) × Shows places g × (place < length g) × (2 * length g ≤ length (now out)) × (length g ≤ 32 * length (now own))) ⌝ }
     requires same { ⌜ length (now left) ≡ length (now own) ⌝ }
     requires room { ⌜ count < length (now queue) ⌝ }
@@ -58,7 +67,15 @@ fn take_place(places: Places, side: Side, place: u32, own: &[u32], left: &mut [u
 
 /// Puts the places of a weight into the queue, each given to `side` with a
 /// move of it that stays in `own`; `left` becomes the others.
-pub(crate) fn gather_heaviest(places: Places, side: Side, heaviest: u32, own: &[u32], left: &mut [u32], out: &mut [u32], queue: &mut [u32]) -> usize
+pub(crate) fn gather_heaviest(
+    places: Places,
+    side: Side,
+    heaviest: u32,
+    own: &[u32],
+    left: &mut [u32],
+    out: &mut [u32],
+    queue: &mut [u32],
+) -> usize
     requires game { ⌜ ((g : Game) × Shows places g × ((n : ℕ) → In (members (now own)) n → n < length g) × (2 * length g ≤ length (now out)) × (length g ≤ 32 * length (now own))) ⌝ }
     requires same { ⌜ length (now left) ≡ length (now own) ⌝ }
     requires room { ⌜ size (now own) ≤ length (now queue) ⌝ }

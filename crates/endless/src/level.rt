@@ -21,7 +21,16 @@ use crate::side::Side;
 
 /// Takes from a part of the game the attractor for `side` of its places of the
 /// heaviest weight, and gives it to that side; `left` becomes the rest.
-fn bring_about(graph: Graph, winner: Side, weight: u32, part: &[u32], left: &mut [u32], out: &mut [u32], queue: &mut [u32], escapes: &mut [u32])
+fn bring_about(
+    graph: Graph,
+    winner: Side,
+    weight: u32,
+    part: &[u32],
+    left: &mut [u32],
+    out: &mut [u32],
+    queue: &mut [u32],
+    escapes: &mut [u32],
+)
     requires game { ⌜ ((g : Game) × Graphs graph g × ((n : ℕ) → In (members (now part)) n → n < length g) × Sized g (now part) (now out) (now escapes)) ⌝ }
     requires same { ⌜ length (now left) ≡ length (now part) ⌝ }
     requires room { ⌜ size (now part) ≤ length (now queue) ⌝ }
@@ -36,7 +45,14 @@ fn bring_about(graph: Graph, winner: Side, weight: u32, part: &[u32], left: &mut
 /// Takes from the set the places that the answer gives to `winner`, with all
 /// from which that side can bring them about, and gives these to it too; or
 /// all places, where the answer gives it none.
-fn peel(graph: Graph, winner: Side, own: &mut [u32], out: &mut [u32], queue: &mut [u32], escapes: &mut [u32])
+fn peel(
+    graph: Graph,
+    winner: Side,
+    own: &mut [u32],
+    out: &mut [u32],
+    queue: &mut [u32],
+    escapes: &mut [u32],
+)
     requires game { ⌜ ((g : Game) × Graphs graph g × ((n : ℕ) → In (members (now own)) n → n < length g) × Sized g (now own) (now out) (now escapes)) ⌝ }
     requires room { ⌜ size (now own) ≤ length (now queue) ⌝ }
     requires small { ⌜ 32 * length (now own) < 2 ^ 32 ⌝ }
@@ -56,7 +72,15 @@ fn peel(graph: Graph, winner: Side, own: &mut [u32], out: &mut [u32], queue: &mu
 /// Solves a subgame in which all weights are below `bound`: writes for each
 /// place who wins it, and a move. The smaller games stand in `rest`, one set
 /// for each weight that is left.
-pub fn level(graph: Graph, bound: u32, own: &mut [u32], rest: &mut [u32], out: &mut [u32], queue: &mut [u32], escapes: &mut [u32])
+pub fn level(
+    graph: Graph,
+    bound: u32,
+    own: &mut [u32],
+    rest: &mut [u32],
+    out: &mut [u32],
+    queue: &mut [u32],
+    escapes: &mut [u32],
+)
     requires { ⌜ ((g : Game) × Graphs graph g × Room g bound (now own) (now rest) (now out) (now queue) (now escapes)) ⌝ }
     ensures frame { λ _. ⌜ ((n : ℕ) → Out (members (now (own .entry))) n → Unchanged (now (out .entry)) (now (out .exit)) n) ⌝ }
     ensures solves { λ _. ⌜ ((g : Game) → Graphs (graph .entry) g → Subgame g (members (now (own .entry))) → Solves g (members (now (own .entry))) (side (now (out .exit))) (goes (now (out .exit)))) ⌝ }

@@ -28,7 +28,11 @@ impl Head {
         if *weight >= 256 || *moves == 0 {
             return None;
         }
-        Some(Head { whose, weight: *weight, moves: *moves })
+        Some(Head {
+            whose,
+            weight: *weight,
+            moves: *moves,
+        })
     }
 }
 

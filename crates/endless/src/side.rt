@@ -38,7 +38,11 @@ impl Side {
     pub fn of_weight(weight: u32) -> Side
         ensures { λ r. ⌜ weight % 2 ≡ number r ⌝ }
     {
-        if weight % 2 == 0 { Side::Even } else { Side::Odd }
+        if weight % 2 == 0 {
+            Side::Even
+        } else {
+            Side::Odd
+        }
     }
 
     /// The side against which this one plays.

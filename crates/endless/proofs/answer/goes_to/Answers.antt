@@ -8,5 +8,5 @@ use Rattle.endless.proofs.answer.goes_to.Needs as need
 
 pub returns : need.returns
 returns c =
-  let f = c .in-Continue-word .ensures tt .finds .3 in
-  nth-in (c .args .answer .now) (2 * c .args .place .0 + 1) 0 (omega arith) ∙ ap some (search needs)
+    let f = c .in-Continue-word .ensures tt .finds .3 in
+    nth-in (c .args .answer .now) (2 * c .args .place .0 + 1) 0 (omega arith) ∙ ap some (search needs)

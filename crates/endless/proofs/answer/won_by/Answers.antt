@@ -19,16 +19,16 @@ word-side o n w h e = at-side o n _ (nth-in o (2 * n) 0 h) ∙ sym e
 
 pub returns-in-Break-word : need.returns-in-Break-word
 returns-in-Break-word c =
-  let e = at-side (c .args .answer .now) (c .args .place .0) _ (nth-out (c .args .answer .now) (2 * c .args .place .0) (c .in-Break-word .ensures tt .finds .3)) in
-  subst (WinnerIs (c .args .answer .now) (c .args .place .0)) (sym (c .from-residual .ensures)) (omega (arith, e))
+    let e = at-side (c .args .answer .now) (c .args .place .0) _ (nth-out (c .args .answer .now) (2 * c .args .place .0) (c .in-Break-word .ensures tt .finds .3)) in
+    subst (WinnerIs (c .args .answer .now) (c .args .place .0)) (sym (c .from-residual .ensures)) (omega (arith, e))
 
 pub returns-in-Break-side : need.returns-in-Break-side
 returns-in-Break-side c =
-  let f = c .in-Continue-word .ensures tt .finds .3 in
-  subst (WinnerIs (c .args .answer .now) (c .args .place .0)) (sym (c .from-residual-in-Break-side .ensures))
+    let f = c .in-Continue-word .ensures tt .finds .3 in
+    subst (WinnerIs (c .args .answer .now) (c .args .place .0)) (sym (c .from-residual-in-Break-side .ensures))
     (omega (arith, word-side (c .args .answer .now) (c .args .place .0) _ (f .0) (f .1 0), c .in-Break-side .ensures tt))
 
 pub returns : need.returns
 returns c =
-  let f = c .in-Continue-word .ensures tt .finds .3 in
-  word-side (c .args .answer .now) (c .args .place .0) _ (f .0) (f .1 0) ∙ c .in-Continue-side .ensures tt
+    let f = c .in-Continue-word .ensures tt .finds .3 in
+    word-side (c .args .answer .now) (c .args .place .0) _ (f .0) (f .1 0) ∙ c .in-Continue-side .ensures tt

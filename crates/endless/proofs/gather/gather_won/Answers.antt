@@ -22,17 +22,17 @@ loop-place-less c = let least = c .in-Some .ensures tt in omega (arith, gatherin
 
 pub loop-place-again : need.loop-place-again
 loop-place-again c =
-  let k = c .loop-place .inv in
-  let least = c .in-Some .ensures tt in
-  let here = side-at (c .args .out .now) (c .in-Some .place) (c .pre .answers (c .in-Some .place) (gathering-inside k least)) in
-  elim (c .if-out-place .came) [
-    then-out-place w ↦ rw (w .set-is, w .count-is) (gathering-take k least (here ∙ w .if-out-place .taken) (omega (arith, gathering-room k least)) (w .remove .ensures) (w .queue-is))
-    | else-out-place w ↦ rw (w .set-is, w .queue-is, w .count-is) (gathering-skip k least (λ e. w .if-out-place .left (sym here ∙ e)))
-  ]
+    let k = c .loop-place .inv in
+    let least = c .in-Some .ensures tt in
+    let here = side-at (c .args .out .now) (c .in-Some .place) (c .pre .answers (c .in-Some .place) (gathering-inside k least)) in
+    elim (c .if-out-place .came) [
+      | then-out-place w ↦ rw (w .set-is, w .count-is) (gathering-take k least (here ∙ w .if-out-place .taken) (omega (arith, gathering-room k least)) (w .remove .ensures) (w .queue-is))
+      | else-out-place w ↦ rw (w .set-is, w .queue-is, w .count-is) (gathering-skip k least (λ e. w .if-out-place .left (sym here ∙ e)))
+    ]
 
 pub returns : need.returns
-returns c = record
-  { counts = c .loop-place .inv .counts
-  ; starts = subst (λ (k : ℕ). Starts (members (c .args .set .now)) (having (members (c .args .set .now)) (side (c .args .out .now)) k) (c .loop-place .set) (c .loop-place .queue) (c .loop-place .count)) (c .to-word-word .ensures)
-      (gathering-all (c .loop-place .inv) (c .in-rest .ensures tt))
-  }
+returns c = record {
+  counts = c .loop-place .inv .counts;
+  starts = subst (λ (k : ℕ). Starts (members (c .args .set .now)) (having (members (c .args .set .now)) (side (c .args .out .now)) k) (c .loop-place .set) (c .loop-place .queue) (c .loop-place .count)) (c .to-word-word .ensures)
+      (gathering-all (c .loop-place .inv) (c .in-rest .ensures tt));
+}

@@ -9,9 +9,9 @@ loop-place-less c = let least = c .in-Some .ensures tt in omega (arith, members-
 
 pub loop-place-again : need.loop-place-again
 loop-place-again c =
-  let p = c .pre .game in
-  let least = c .in-Some .ensures tt in
-  weighing-more (c .loop-place .inv) least
+    let p = c .pre .game in
+    let least = c .in-Some .ensures tt in
+    weighing-more (c .loop-place .inv) least
     (λ g s. c .head .ensures g (in-every (c .args .places) (p .1) (p .2 (c .in-Some .place) (true-T _ (least .is))) g s) s .1) (c .max-heaviest .ensures)
 
 pub returns : need.returns

@@ -12,14 +12,14 @@ use Rattle.endless.proofs.words.place_end.Needs.{then-moves-count·by·then-mo
 
 pub returns-in-Break-head : need.returns-in-Break-head
 returns-in-Break-head c =
-  subst (PlaceEnds (c .args .words .now) (c .args .at) (c .args .places)) (sym (c .from-residual .ensures))
+    subst (PlaceEnds (c .args .words .now) (c .args .at) (c .args .places)) (sym (c .from-residual .ensures))
     (headless (drop (c .args .at) (c .args .words .now)) (c .args .places) (λ w k m rest e. c .in-Break-head .ensures tt w k m rest (take-rest (c .args .words .now) (c .args .at) ∙ e)))
 
 pub returns-then-moves-count : need.returns-then-moves-count
 returns-then-moves-count c =
-  place-missing (c .args .words .now) (c .args .at) (c .args .places) (c .in-Continue-head .head) (c .in-Continue-head .ensures tt)
+    place-missing (c .args .words .now) (c .args .at) (c .args .places) (c .in-Continue-head .head) (c .in-Continue-head .ensures tt)
     (elim (c .then-moves-count .came) [ then-moves-count·by·then-moves-count w ↦ λ long. absurd (omega arith) | then-moves-count·by·else-moves-count·then-not-all-below w ↦ λ long. sym (w .all-below .ensures) ∙ w .if-not-all-below .taken ])
 
 pub returns : need.returns
 returns c =
-  place-found (c .args .words .now) (c .args .at) (c .args .places) (c .in-Continue-head .head) (c .in-Continue-head .ensures tt) (c .if-moves-count .left) (sym (c .if-not-all-below .ensures tt))
+    place-found (c .args .words .now) (c .args .at) (c .args .places) (c .in-Continue-head .head) (c .in-Continue-head .ensures tt) (c .if-moves-count .left) (sym (c .if-not-all-below .ensures tt))

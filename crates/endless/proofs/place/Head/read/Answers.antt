@@ -7,9 +7,9 @@ use Rattle.endless.proofs.Readers.{three-front}
 use Rattle.endless.proofs.place.Head.read.Needs as need
 
 pub returns : need.returns
-returns c = record
-  { rest = drop 3 (c .args .words .now)
-  ; is = let e = three-front (c .args .words .now) (search needs) in let w = c .in-Continue-whose .ensures tt in cc
-  ; light = search needs
-  ; moving = search needs
-  }
+returns c = record {
+  rest = drop 3 (c .args .words .now);
+  is = let e = three-front (c .args .words .now) (search needs) in let w = c .in-Continue-whose .ensures tt in cc;
+  light = search needs;
+  moving = search needs;
+}
