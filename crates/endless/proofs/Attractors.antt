@@ -7,7 +7,8 @@ use native.Mathlib.Omega.{arith}
 use Rattle.std.proofs.shelf.Tests.{cases-eq}
 use Rattle.endless.specs.Games.{Game, Reads, whose, May, Play, Plays, By-plan, other}
 use Rattle.endless.specs.Sets.{Set, In, Out}
-use Rattle.endless.specs.Attractors.{Attractor, Least, Brings, Keeps-out}
+use Rattle.endless.specs.Subgames.{Same}
+use Rattle.endless.specs.Attractors.{Attractor, Least, Brings, Keeps-out, Attractor-laws}
 use Rattle.endless.proofs.Places.{side-below, is-other, not-other}
 use Rattle.endless.proofs.Sets.{in-or-out}
 
@@ -43,9 +44,21 @@ attractor-brings {g} {U} {w} {D} {A} {plan} {rank} att f u p b x = upto (suc (ra
             let c = ih (omega (arith, t .1)) (t .0) in
             (suc (c .0), omega (arith, c .1, t .1), c .2)
 
--- and outside it the other side goes past
+-- outside it the other side goes past, by any plan that stays outside
+pub attractor-past : {s : List ℕ} {g : Game} {U : Set} {w : ℕ} {D A : Set} {plan rank : ℕ → ℕ} → Reads s g → w < 2 → Attractor g U w D A plan rank → (reply : ℕ → ℕ) → ((n : ℕ) → In U n → Out A n → whose g n ≡ other w → Out A (reply n)) →
+    (f : Play) → ((i : ℕ) → In U (f i)) → Plays g f → By-plan g (other w) reply f → Out A (f 0) → (i : ℕ) → Out A (f i)
+attractor-past r l att reply past f u p b x zero = x
+attractor-past {s} {g} {U} {w} {D} {A} r l att reply past f u p b x (suc i) = go (cases-eq (whose g (f i)) w) (attractor-past r l att reply past f u p b x i)
+  where
+    go : (whose g (f i) ≡ w) ⊎ (whose g (f i) ≡ w → ⊥) → Out A (f i) → Out A (f (suc i))
+    go (inl e) y = att .no-way-in (f i) (f (suc i)) (u i) y e (p i)
+    go (inr d) y =
+        let e = is-other w (whose g (f i)) l (side-below r (f i)) d in
+        subst (λ (m : ℕ). Out A m) (sym (b i e)) (past (f i) (u i) y e)
+
+-- and there is one
 pub attractor-keeps-out : {s : List ℕ} {g : Game} {U : Set} {w : ℕ} {D A : Set} {plan rank : ℕ → ℕ} → Reads s g → w < 2 → Attractor g U w D A plan rank → Keeps-out g U w A
-attractor-keeps-out {s} {g} {U} {w} {D} {A} {plan} {rank} r l att = (λ n. past n .0, legal, out)
+attractor-keeps-out {s} {g} {U} {w} {D} {A} {plan} {rank} r l att = (λ n. past n .0, legal, attractor-past r l att (λ n. past n .0) (λ n u a e. past n .1 u a e .2))
   where
     -- a move past A where there has to be one
     Past : ℕ → Type 0
@@ -63,12 +76,20 @@ attractor-keeps-out {s} {g} {U} {w} {D} {A} {plan} {rank} r l att = (λ n. past 
     legal : (n : ℕ) → In U n → Out A n → whose g n ≡ other w → May g n (past n .0) × In U (past n .0)
     legal n u a e = let t = past n .1 u a e in (t .0, t .1)
 
-    out : (f : Play) → ((i : ℕ) → In U (f i)) → Plays g f → By-plan g (other w) (λ n. past n .0) f → Out A (f 0) → (i : ℕ) → Out A (f i)
-    out f u p b x zero = x
-    out f u p b x (suc i) = go (cases-eq (whose g (f i)) w) (out f u p b x i)
-      where
-        go : (whose g (f i) ≡ w) ⊎ (whose g (f i) ≡ w → ⊥) → Out A (f i) → Out A (f (suc i))
-        go (inl e) y = att .no-way-in (f i) (f (suc i)) (u i) y e (p i)
-        go (inr d) y =
-            let e = is-other w (whose g (f i)) l (side-below r (f i)) d in
-            subst (λ (m : ℕ). Out A m) (sym (b i e)) (past (f i) .1 (u i) y e .2)
+pub attractor-laws : Attractor-laws
+attractor-laws = record {
+  least = λ g U w D A plan rank att. attractor-least att;
+  brings = λ g U w D A plan rank att. attractor-brings att;
+  keeps-out = λ s g U w D A plan rank r l att. attractor-keeps-out r l att;
+}
+
+-- the same plan, told otherwise
+pub attractor-plan : {g : Game} {U : Set} {w : ℕ} {D A : Set} {τ rank : ℕ → ℕ} (π : ℕ → ℕ) → Same g w A π τ → Attractor g U w D A τ rank → Attractor g U w D A π rank
+attractor-plan {g} {U} {w} {D} {A} {τ} {rank} π same att = record {
+  within = att .within;
+  targets = att .targets;
+  own = λ n x d e. subst (λ (m : ℕ). May g n m × In A m × (rank m < rank n)) (sym (same n x e)) (att .own n x d e);
+  forced = att .forced;
+  no-way-in = att .no-way-in;
+  way-past = att .way-past;
+}

@@ -11,12 +11,12 @@ use Rattle.std.proofs.shelf.Lists.{getD-set-same, getD-set-other, length-set}
 use Rattle.std.proofs.shelf.Tests.{cases-eq, cases-lt, both-ways}
 use Rattle.endless.specs.Games.{Game, weight}
 use Rattle.endless.specs.Says.{side, goes}
-use Rattle.endless.specs.Sets.{In, Out, Within, having}
+use Rattle.endless.specs.Sets.{Set, In, Out, Within, having}
 use Rattle.endless.specs.Bits.{members, size, Removed, Least, None-from}
 use Rattle.endless.specs.View.{Shows}
 use Rattle.endless.specs.declared.graph.Places.{Places}
 use Rattle.endless.specs.Pulling.{Passed, Unchanged, Starts}
-use Rattle.endless.specs.Levels.{Heaviest-in, Gathered, Stays, Taken}
+use Rattle.endless.specs.Levels.{Heaviest-in, Gathered, Stays, Given, Taken}
 use Rattle.endless.proofs.Tests.{T-true, true-T}
 use Rattle.endless.proofs.Sets.{in-or-out, having-in, having-within, having-is}
 use Rattle.endless.proofs.Reading.{places-are}
@@ -28,7 +28,7 @@ pub in-every : (v : Places) {n : ℕ} {g : Game} → Shows v g → n < length g 
 in-every v {n} {g} s l h t = omega (arith, places-are (now (v .words)) g (s .reads), places-are (now (v .words)) h (t .reads))
 
 -- a member that a scan from `from` on would have found is below it
-before : (l : List ℕ) (from n : ℕ) → (from ≤ n → members l n ≡ false) → In (members l) n → n < from
+pub before : (l : List ℕ) (from n : ℕ) → (from ≤ n → members l n ≡ false) → In (members l) n → n < from
 before l from n none x = go (cases-lt n from)
   where
     go : (n < from) ⊎ (from ≤ n) → n < from
@@ -149,6 +149,20 @@ module _ {f : ℕ → ℕ} {k : ℕ} {own left queue : List ℕ} {from count : �
       apart : (n : ℕ) → In (having (members own) f k) n → Out (members left) n
       apart n x y = so-far .apart n (before left from n (none n) y) (having-is (members own) f k n x) y
 
+-- a place is given to a side
+module _ {v : Places} {w m : ℕ} {U : Set} {out out′ : List ℕ} (room : 2 * m + 1 < length out) (t : Given v w m U out out′) where
+  pub given-same : (n : ℕ) → (n ≡ m → ⊥) → Unchanged out out′ n
+  given-same n d = subst (λ (o : List ℕ). Unchanged out o n) (sym (t .out-is)) (put-unchanged out m w (t .move) room n d)
+
+  pub given-length : length out′ ≡ length out
+  given-length = ap length (t .out-is) ∙ length-set (set out (2 * m) w) (2 * m + 1) (t .move) ∙ length-set out (2 * m) w
+
+  pub given-side : side out′ m ≡ w
+  given-side = ap (λ (o : List ℕ). side o m) (t .out-is) ∙ put-side out m w (t .move) room
+
+  pub given-stays : (g : Game) → Shows v g → m < length g → Stays g U m (goes out′ m)
+  given-stays g s l = subst (Stays g U m) (sym (ap (λ (o : List ℕ). goes o m) (t .out-is) ∙ put-goes out m w (t .move) room)) (t .stays g s l)
+
 -- those of a weight, which are given to a side with a move that stays
 pub record Giving (v : Places) (w h : ℕ) (own out left queue out′ : List ℕ) (from count : ℕ) : Type 0 where
   pub gathers : (g : Game) → Shows v g → Gathering (weight g) h own left queue from count
@@ -190,19 +204,14 @@ module _ {v : Places} {w h : ℕ} {own out left queue out′ : List ℕ} {from c
     }
       where
         same : (n : ℕ) → (n ≡ m → ⊥) → Unchanged out′ out″ n
-        same n d = subst (λ (o : List ℕ). Unchanged out′ o n) (sym (t .out-is)) (put-unchanged out′ m w (t .move) room n d)
-
-        same-length : length out″ ≡ length out′
-        same-length = ap length (t .out-is) ∙ length-set (set out′ (2 * m) w) (2 * m + 1) (t .move) ∙ length-set out′ (2 * m) w
+        same = given-same room (t .given)
 
         labelled : (g : Game) → Shows v g → (n : ℕ) → n < m + 1 → In (having (members own) (weight g) h) n → (n ≡ m) ⊎ (n ≡ m → ⊥) → side out″ n ≡ w
-        labelled g s n l y (inl e) = ap (side out″) e ∙ ap (λ (o : List ℕ). side o m) (t .out-is) ∙ put-side out′ m w (t .move) room
-        labelled g s n l y (inr d) = same-side out′ out″ n same-length (same n d) ∙ so-far .labelled g s n (earlier g s n (omega arith) y) y
+        labelled g s n l y (inl e) = ap (side out″) e ∙ given-side room (t .given)
+        labelled g s n l y (inr d) = same-side out′ out″ n (given-length room (t .given)) (same n d) ∙ so-far .labelled g s n (earlier g s n (omega arith) y) y
 
         stays : (g : Game) → Shows v g → (n : ℕ) → n < m + 1 → In (having (members own) (weight g) h) n → (n ≡ m) ⊎ (n ≡ m → ⊥) → Stays g (members own) n (goes out″ n)
-        stays g s n l y (inl e) =
-            subst (λ (j : ℕ). Stays g (members own) j (goes out″ j)) (sym e)
-            (subst (Stays g (members own) m) (sym (ap (λ (o : List ℕ). goes o m) (t .out-is) ∙ put-goes out′ m w (t .move) room)) (t .stays g s (inside g s)))
+        stays g s n l y (inl e) = subst (λ (j : ℕ). Stays g (members own) j (goes out″ j)) (sym e) (given-stays room (t .given) g s (inside g s))
         stays g s n l y (inr d) = subst (Stays g (members own) n) (sym (unchanged-goes out′ out″ n (same n d))) (so-far .stays g s n (earlier g s n (omega arith) y) y)
 
   pub giving-all : None-from (members left) from → (g : Game) → Shows v g → Gathered g (members own) w h left queue out′ count

@@ -41,3 +41,4 @@ mod Levels
 mod Gathering
 mod Layouts
 mod Solving
+mod Reaching

@@ -25,14 +25,15 @@ pub record Queueing (v : Graph) (w : ℕ) (left queue out : List ℕ) (targets h
 pub queueing-none : (v : Graph) (w : ℕ) (left queue out : List ℕ) (targets : ℕ) → Queueing v w left queue out targets 0 left queue out targets
 queueing-none v w left queue out targets = record { order = omega arith; moved = moved-none left queue out targets; works = λ g U D gr sub st. working-none g U w D left queue out targets sub st }
 
-pub queueing-more : (v : Graph) (w : ℕ) (left queue out : List ℕ) (targets head : ℕ) (l q o : List ℕ) (t : ℕ) (l′ q′ o′ : List ℕ) (t′ : ℕ) → head < t → Queueing v w left queue out targets head l q o t → Moved l q o t l′ q′ o′ t′ → Looked v w (getD q head 0) l q o t l′ q′ o′ t′ → Queueing v w left queue out targets (head + 1) l′ q′ o′ t′
-queueing-more v w left queue out targets head l q o t l′ q′ o′ t′ h k m look = record {
+pub queueing-more : (v : Graph) (w : ℕ) (left queue out : List ℕ) (targets head : ℕ) (l q o : List ℕ) (t next : ℕ) (l′ q′ o′ : List ℕ) (t′ : ℕ) → head < t → next ≡ head + 1 → Queueing v w left queue out targets head l q o t → Moved l q o t l′ q′ o′ t′ → Looked v w (getD q head 0) l q o t l′ q′ o′ t′ → Queueing v w left queue out targets next l′ q′ o′ t′
+queueing-more v w left queue out targets head l q o t next l′ q′ o′ t′ h is k m look = record {
   order = omega (arith, m .grows);
   moved = moved-then left queue out targets l q o t l′ q′ o′ t′ (k .moved) m;
   works = λ g U D gr sub st.
       let work = k .works g U D gr sub st in
       let to = work .queued head h in
-      look g U D (head + 1) gr (sub .places (getD q head 0) (to .0)) (to .0) (to .1) (working-next g U w D l q o head t (sources 0 g (getD q head 0)) h (λ n may. preds-may g (getD q head 0) n .1 may) work);
+      look g U D next gr (sub .places (getD q head 0) (to .0)) (to .0) (to .1)
+      (subst (λ (i : ℕ). Working g U w D l q o i t (sources 0 g (getD q head 0))) (sym is) (working-next g U w D l q o head t (sources 0 g (getD q head 0)) h (λ n may. preds-may g (getD q head 0) n .1 may) work));
 }
 
 -- every place in the queue is one of the game

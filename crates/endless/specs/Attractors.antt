@@ -1,7 +1,8 @@
 -- Attractors: from where in a subgame a side can bring every play to a target.
 use mathlib.Core.Path.{_≡_}
+use mathlib.Core.List.{List}
 use Prim.Native.Nat.{ℕ, _≤_, _<_}
-use Rattle.endless.specs.Games.{Game, whose, May, Play, Plays, By-plan, other}
+use Rattle.endless.specs.Games.{Game, Reads, whose, May, Play, Plays, By-plan, other}
 use Rattle.endless.specs.Sets.{Set, In, Out, Within}
 
 -- A is the attractor for w of the targets D in U: by the plan, and by any move of the other's within U, the rank falls until a target is come to; from outside w has no move in, and the other has one that stays out
@@ -38,3 +39,9 @@ Brings g U w D A plan rank = (f : Play) → ((i : ℕ) → In U (f i)) → Plays
 abbrev pub Keeps-out : Game → Set → ℕ → Set → Type 0
 Keeps-out g U w A = (reply : ℕ → ℕ) × ((n : ℕ) → In U n → Out A n → whose g n ≡ other w → May g n (reply n) × In U (reply n)) ×
     ((f : Play) → ((i : ℕ) → In U (f i)) → Plays g f → By-plan g (other w) reply f → Out A (f 0) → (i : ℕ) → Out A (f i))
+
+-- so every attractor is the least of its kind, and brings and keeps out
+pub record Attractor-laws : Type 0 where
+  pub least : (g : Game) (U : Set) (w : ℕ) (D A : Set) (plan rank : ℕ → ℕ) → Attractor g U w D A plan rank → Least g U w D A
+  pub brings : (g : Game) (U : Set) (w : ℕ) (D A : Set) (plan rank : ℕ → ℕ) → Attractor g U w D A plan rank → Brings g U w D A plan rank
+  pub keeps-out : (s : List ℕ) (g : Game) (U : Set) (w : ℕ) (D A : Set) (plan rank : ℕ → ℕ) → Reads s g → w < 2 → Attractor g U w D A plan rank → Keeps-out g U w A

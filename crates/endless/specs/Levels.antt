@@ -30,13 +30,17 @@ pub record Gathered (g : Game) (U : Set) (w h : ℕ) (left queue out : List ℕ)
 abbrev pub Stays : Game → Set → ℕ → ℕ → Type 0
 Stays g U n m = (k : ℕ) → May g n k → In U k → May g n m × In U m
 
+-- a place is given to a side, with a move that stays in a set
+pub record Given (v : Places) (w n : ℕ) (U : Set) (out out′ : List ℕ) : Type 0 where
+  pub move : ℕ
+  pub out-is : out′ ≡ set (set out (2 * n) w) (2 * n + 1) move
+  pub stays : (g : Game) → Shows v g → n < length g → Stays g U n move
+
 -- a place goes from what is left to the queue, given to a side with a move that stays in a set
 pub record Taken (v : Places) (w n : ℕ) (U : Set) (count : ℕ) (left queue out left′ queue′ out′ : List ℕ) : Type 0 where
   pub left-is : Removed left n left′
   pub queue-is : queue′ ≡ set queue count n
-  pub move : ℕ
-  pub out-is : out′ ≡ set (set out (2 * n) w) (2 * n + 1) move
-  pub stays : (g : Game) → Shows v g → n < length g → Stays g U n move
+  pub given : Given v w n U out out′
 
 -- in a part R the attractor for w of the places of weight h is taken: B is left, and the answer gives the rest to w
 pub record Brought (g : Game) (R : Set) (w h : ℕ) (B : Set) (out : List ℕ) : Type 0 where

@@ -17,3 +17,4 @@ pub mod View
 pub mod Pulling
 pub mod Levels
 pub mod Layout
+pub mod Reaching

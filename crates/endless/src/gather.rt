@@ -9,7 +9,7 @@ ghost use Rattle.endless.specs.Sides.{number};
 ghost use Rattle.endless.specs.Bits.{members, size};
 ghost use Rattle.endless.specs.View.{Shows};
 ghost use Rattle.endless.specs.Pulling.{Unchanged, Starts};
-ghost use Rattle.endless.specs.Levels.{Heaviest-in, Gathered, Taken, Stays};
+ghost use Rattle.endless.specs.Levels.{Heaviest-in, Gathered, Given, Taken, Stays};
 use crate::attractor::first_into;
 use crate::bits;
 use crate::graph::Places;
@@ -42,6 +42,16 @@ fn move_within(places: Places, place: u32, set: &[u32]) -> u32
     }
 }
 
+/// Gives a place to `side`, with a move of it that stays in the set, where it
+/// has one.
+pub(crate) fn give(places: Places, side: Side, place: u32, set: &[u32], out: &mut [u32])
+    requires { ⌜ ((g : Game) × Shows places g × (place < length g) × (2 * length g ≤ length (now out)) × (length g ≤ 32 * length (now set))) ⌝ }
+    ensures { λ _. ⌜ Given (places .entry) (number side) place (members (now (set .entry))) (now (out .entry)) (now (out .exit)) ⌝ }
+{
+    out[2 * place as usize] = side.to_word();
+    out[2 * place as usize + 1] = move_within(places, place, set);
+}
+
 /// Takes a place from what is left into the queue, and gives it to `side`
 /// with a move of it that stays in `own`.
 fn take_place(
@@ -60,8 +70,7 @@ fn take_place(
     ensures { λ _. ⌜ Taken (places .entry) (number side) place (members (now (own .entry))) count (now (left .entry)) (now (queue .entry)) (now (out .entry)) (now (left .exit)) (now (queue .exit)) (now (out .exit)) ⌝ }
 {
     bits::remove(left, place);
-    out[2 * place as usize] = side.to_word();
-    out[2 * place as usize + 1] = move_within(places, place, own);
+    give(places, side, place, own, out);
     queue[count] = place;
 }
 

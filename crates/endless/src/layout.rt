@@ -7,10 +7,8 @@ ghost use Rattle.endless.specs.Games.{Game, Reads};
 ghost use Rattle.endless.specs.Says.{side, goes};
 ghost use Rattle.endless.specs.Sets.{whole};
 ghost use Rattle.endless.specs.Subgames.{Solves};
-ghost use Rattle.endless.specs.View.{Graphs};
-ghost use Rattle.endless.specs.Weights.{kinds};
 ghost use Rattle.endless.specs.Pulling.{Unchanged};
-ghost use Rattle.endless.specs.Layout.{width, needed, OutRoomIs};
+ghost use Rattle.endless.specs.Layout.{OutRoomIs, LaidOut};
 use crate::bits;
 use crate::graph::Graph;
 use crate::graph::Places;
@@ -43,11 +41,21 @@ pub(crate) fn out_room(places: u32, given: usize) -> OutRoom
     }
 }
 
-/// Solves a game: cuts the lent words and goes through its levels.
-pub(crate) fn solve_game<'a>(words: &'a [u32], out: &mut [u32], work: &'a mut [u32])
-    requires { ⌜ ((g : Game) × Reads (now words) g × (2 * length g ≤ length (now out)) × (65536 + 4 * length (now words) ≤ length (now work))) ⌝ }
-    ensures frame { λ _. ⌜ ((g : Game) → Reads (now (words .entry)) g → (n : ℕ) → length g ≤ n → Unchanged (now (out .entry)) (now (out .exit)) n) ⌝ }
-    ensures solves { λ _. ⌜ ((g : Game) → Reads (now (words .entry)) g → Solves g (whole g) (side (now (out .exit))) (goes (now (out .exit)))) ⌝ }
+/// A game laid out in the lent words: its graph, a queue and cursors for its
+/// places, the set of all of them, and what is left of the words.
+#[derive(Drop)]
+pub(crate) struct Layout<'a> {
+    pub graph: Graph<'a>,
+    pub queue: &'a mut [u32],
+    pub escapes: &'a mut [u32],
+    pub all: &'a mut [u32],
+    pub rest: &'a mut [u32],
+}
+
+/// Cuts the lent words for a game, and makes its graph there.
+pub(crate) fn lay_out<'a>(words: &'a [u32], work: &'a mut [u32]) -> Layout<'a>
+    requires { ⌜ ((g : Game) × Reads (now words) g × (65536 + 4 * length (now words) ≤ length (now work))) ⌝ }
+    ensures { λ r. ⌜ ((g : Game) → Reads (now (words .entry)) g → LaidOut g r) ⌝ }
 {
     let places = words[0] as usize;
     let moves = words.len() - 1 - 3 * places;
@@ -58,21 +66,33 @@ pub(crate) fn solve_game<'a>(words: &'a [u32], out: &mut [u32], work: &'a mut [u
     let (high, work) = work.split_at_mut(places + 1);
     let (preds, work) = work.split_at_mut(moves);
     let graph = Graph::new(view, low, high, preds);
-    solve_graph(graph, words[0], weights::levels(words), out, work);
+    let (queue, work) = work.split_at_mut(places);
+    let (escapes, work) = work.split_at_mut(places);
+    let (all, rest) = work.split_at_mut(places.div_ceil(32));
+    bits::fill(all, words[0]);
+    Layout {
+        graph,
+        queue,
+        escapes,
+        all,
+        rest,
+    }
 }
 
-/// Solves the game of a graph in what is left of the lent words: the queue,
-/// the cursors, the set of all places, and a set for each level.
-fn solve_graph(graph: Graph, places: u32, levels: usize, out: &mut [u32], work: &mut [u32])
-    requires { ⌜ ((g : Game) × Graphs graph g × (places ≡ length g) × (levels ≡ kinds g) × (2 * length g ≤ length (now out)) × ((places + places) + (levels + 1) * width places ≤ length (now work))) ⌝ }
-    ensures frame { λ _. ⌜ ((n : ℕ) → places ≤ n → Unchanged (now (out .entry)) (now (out .exit)) n) ⌝ }
-    ensures solves { λ _. ⌜ ((g : Game) → Graphs (graph .entry) g → places ≡ length g → Solves g (whole g) (side (now (out .exit))) (goes (now (out .exit)))) ⌝ }
+/// Solves a game: lays it out, with a set for each level, and goes through
+/// these.
+pub(crate) fn solve_game<'a>(words: &'a [u32], out: &mut [u32], work: &'a mut [u32])
+    requires { ⌜ ((g : Game) × Reads (now words) g × (2 * length g ≤ length (now out)) × (65536 + 4 * length (now words) ≤ length (now work))) ⌝ }
+    ensures frame { λ _. ⌜ ((g : Game) → Reads (now (words .entry)) g → (n : ℕ) → length g ≤ n → Unchanged (now (out .entry)) (now (out .exit)) n) ⌝ }
+    ensures solves { λ _. ⌜ ((g : Game) → Reads (now (words .entry)) g → Solves g (whole g) (side (now (out .exit))) (goes (now (out .exit)))) ⌝ }
 {
-    let width = places.div_ceil(32) as usize;
-    let (queue, work) = work.split_at_mut(places as usize);
-    let (escapes, work) = work.split_at_mut(places as usize);
-    let (own, work) = work.split_at_mut(width);
-    let (rest, _) = work.split_at_mut(levels * width);
-    bits::fill(own, places);
-    level(graph, 256, own, rest, out, queue, escapes);
+    let Layout {
+        graph,
+        queue,
+        escapes,
+        all,
+        rest,
+    } = lay_out(words, work);
+    let (sets, _) = rest.split_at_mut(weights::levels(words) * all.len());
+    level(graph, 256, all, sets, out, queue, escapes);
 }

@@ -16,6 +16,7 @@ mod layout;
 pub mod level;
 pub mod place;
 pub mod positions;
+pub mod reach;
 pub mod side;
 pub mod weights;
 pub mod words;

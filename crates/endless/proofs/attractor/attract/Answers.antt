@@ -1,4 +1,4 @@
-use mathlib.Core.Path.{_≡_, sym, ap}
+use mathlib.Core.Path.{_≡_, refl, sym, ap}
 use mathlib.Core.Logic.{inl, inr}
 use Prim.Native.Nat.{ℕ, _+_, _≤_}
 use native.Mathlib.Omega.{arith}
@@ -27,8 +27,8 @@ pull-all-tail-requires c κs =
 
 pub queue-again : need.queue-again
 queue-again c = (
-  queueing-more (c .args .graph) (number (c .args .side)) (c .args .left .now) (c .args .queue .now) (c .args .out .now) (c .args .targets) (c .queue .head) (c .queue .left) (c .queue .queue) (c .queue .out) (c .queue .tail)
-      (c .pull-all-tail .last .left) (c .pull-all-tail .last .queue) (c .pull-all-tail .last .out) (c .pull-all-tail .result) (omega arith) (c .queue .inv .0) (c .pull-all-tail .ensures .moved) (c .pull-all-tail .ensures .looked),
+  queueing-more (c .args .graph) (number (c .args .side)) (c .args .left .now) (c .args .queue .now) (c .args .out .now) (c .args .targets) (c .queue .head) (c .queue .left) (c .queue .queue) (c .queue .out) (c .queue .tail) _
+      (c .pull-all-tail .last .left) (c .pull-all-tail .last .queue) (c .pull-all-tail .last .out) (c .pull-all-tail .result) (omega arith) (omega arith) (c .queue .inv .0) (c .pull-all-tail .ensures .moved) (c .pull-all-tail .ensures .looked),
   c .queue .inv .1,
 )
 
@@ -41,8 +41,8 @@ returns-after-queue c = record {
 
 pub returns-then-tail-all : need.returns-then-tail-all
 returns-then-tail-all c =
-    let k = queueing-more (c .args .graph) (number (c .args .side)) (c .args .left .now) (c .args .queue .now) (c .args .out .now) (c .args .targets) (c .queue .head) (c .queue .left) (c .queue .queue) (c .queue .out) (c .queue .tail)
-    (c .pull-all-tail .last .left) (c .pull-all-tail .last .queue) (c .pull-all-tail .last .out) (c .pull-all-tail .result) (omega arith) (c .queue .inv .0) (c .pull-all-tail .ensures .moved) (c .pull-all-tail .ensures .looked) in
+    let k = queueing-more (c .args .graph) (number (c .args .side)) (c .args .left .now) (c .args .queue .now) (c .args .out .now) (c .args .targets) (c .queue .head) (c .queue .left) (c .queue .queue) (c .queue .out) (c .queue .tail) (c .queue .head + 1)
+    (c .pull-all-tail .last .left) (c .pull-all-tail .last .queue) (c .pull-all-tail .last .out) (c .pull-all-tail .result) (omega arith) refl (c .queue .inv .0) (c .pull-all-tail .ensures .moved) (c .pull-all-tail .ensures .looked) in
     record {
       moved = k .moved;
       attracts = queueing-all (c .args .graph) (number (c .args .side)) (c .args .left .now) (c .args .queue .now) (c .args .out .now) (c .args .targets) (c .queue .head + 1) (c .pull-all-tail .last .left) (c .pull-all-tail .last .queue) (c .pull-all-tail .last .out) (c .pull-all-tail .result)
