@@ -145,13 +145,35 @@ std::string cell(double v, const char *form) {
   return s;
 }
 
-// One attractor of one place, in C++: the loop alone, and with reading the words.
+// The library's attractor of one place, from the words to the answer.
+double library_attractor(const Words &words, uint32_t target, uint32_t &took) {
+  const uint32_t n = words[0];
+  std::vector<uint32_t> out(2 * n), work(65536 + 4 * words.size());
+  Timed t;
+  t.clear = [&] { std::fill(work.begin(), work.end(), 0x5a5a5a5a); };
+  t.run = [&] { endless_attract_to(words.data(), words.size(), target, 0, out.data(), out.size(), work.data(), work.size()); };
+  t.times = 10;
+  for (int i = 0; i < 5; i++) t.sample();
+  took = 0;
+  for (uint32_t v = 0; v < n; v++) took += out[2 * v] == 0;
+  return t.best;
+}
+
+// Place 0 is side 1's and may move to all others, which come one after another: 1 stays, each other goes to the one before it.
+Words star(uint32_t n) {
+  Words words{n, 1, 0, n - 1};
+  for (uint32_t v = 1; v < n; v++) words.push_back(v);
+  for (uint32_t v = 1; v < n; v++) words.insert(words.end(), {0, 0, 1, v > 1 ? v - 1 : 1});
+  return words;
+}
+
+// One attractor of one place: in C++ the loop alone, and with reading the words; in the library from the words to the answer.
 void one_attractor() {
   const Words words = random_game(16384, 3, 8, 1);
   std::vector<uint32_t> out(2 * 16384);
   Solver s;
   s.reserve(16384, words.size());
-  uint32_t took = 0;
+  uint32_t took = 0, library = 0;
   Timed all, loop;
   all.clear = [&] { s.fill(0x5a); };
   all.run = [&] { s.graph.read(words.data(), words.size()), took = s.attractor(0, 0, out.data()); };
@@ -159,7 +181,13 @@ void one_attractor() {
   loop.run = [&] { took = s.attractor(0, 0, out.data()); };
   all.times = loop.times = 10;
   for (int i = 0; i < 5; i++) all.sample(), loop.sample();
-  std::printf("\nOne attractor in C++ over 16384 places and 49152 moves, %u places taken: %.3f ms, with reading the words %.3f ms\n", took, loop.best, all.best);
+  const double ours = library_attractor(words, 0, library);
+  std::printf("\nOne attractor over 16384 places and 49152 moves, %u places taken: C++ %.3f ms, with reading the words %.3f ms; endless %.3f ms (%u places), ratio %.2f\n", took, loop.best, all.best, ours, library, ours / all.best);
+  std::printf("A place with all moves, whose targets come one by one:");
+  for (uint32_t n : {4096, 8192, 16384}) {
+    const double t = library_attractor(star(n), 1, library);
+    std::printf(" %u places %.3f ms (%u taken)%s", n, t, library, n < 16384 ? "," : "\n");
+  }
 }
 
 }  // namespace

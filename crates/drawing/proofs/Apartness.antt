@@ -94,7 +94,7 @@ add-follow n old new e None q h = at (ltb (length old) 16384) refl h
         }
     at false l r = absurd (ok-err r)
 
-line-follow : (n : ℕ) (old new : List (List ℕ)) (l : Line) → name-line n old l ≡ Ok new → Follow old (with-entry l []) new
+pub line-follow : (n : ℕ) (old new : List (List ℕ)) (l : Line) → name-line n old l ≡ Ok new → Follow old (with-entry l []) new
 line-follow n old new nothing h = follow-none old new cc
 line-follow n old new (bad f) h = absurd (ok-err h)
 line-follow n old new (place e) h = add-follow n old new e (index-of (e .named) old) refl h

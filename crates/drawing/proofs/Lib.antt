@@ -16,3 +16,4 @@ pub mod RowSteps
 pub mod Scans
 pub mod Spells
 pub mod Tokens
+pub mod Wrongs

@@ -9,3 +9,4 @@ pub mod Reading
 pub mod Rows
 pub mod Spelling
 pub mod Table
+pub mod Wrong

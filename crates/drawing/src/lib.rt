@@ -1,8 +1,11 @@
 //! The drawing of a parity game as text, read into words.
 ghost use mathlib.Core.Path.{_≡_};
-ghost use Rattle.std.specs.Vec.{made};
+ghost use Prim.Native.Nat.{_≤_};
+ghost use lib.ListN.{length};
+ghost use Rattle.std.specs.Vec.{made, refused};
 ghost use Rattle.drawing.specs.Answer.{Answers, drawn-names, drawn-words};
 ghost use Rattle.drawing.specs.Drawn.{Drawn};
+ghost use Rattle.drawing.specs.Wrong.{Says};
 use crate::refusal::RefusalFromAlloc;
 use std::alloc::Global;
 
@@ -33,14 +36,11 @@ pub struct Drawing {
     pub names: Vec<String>,
 }
 
-/// Reads a drawing: one line a place, NAME SIDE WEIGHT: NAME NAME ..
-pub fn read(heap: Global, text: &str) -> Result<Drawing, Refusal>
+fn read_lines(heap: Global, text: &str) -> Result<Drawing, Refusal>
+    requires { ⌜ length (now text) ≤ 1572864 ⌝ }
     ensures answers { λ r. ⌜ Answers (now (text .entry)) r ⌝ }
     ensures drawn { λ r. ⌜ made r (λ d. Drawn (now (text .entry)) (drawn-names d) (drawn-words d)) ⌝ }
 {
-    if text.len() > MOST_BYTES {
-        return Err(Refusal::TooLong);
-    }
     let table = gather::gather_names(heap, text)?;
     if table.names.is_empty() {
         return Err(Refusal::NoPlaces);
@@ -48,4 +48,16 @@ pub fn read(heap: Global, text: &str) -> Result<Drawing, Refusal>
     let words = write::write_words(heap, &table, text)?;
     let names = table.into_names();
     Ok(Drawing { words, names })
+}
+
+/// Reads a drawing: one line a place, NAME SIDE WEIGHT: NAME NAME ..
+pub fn read(heap: Global, text: &str) -> Result<Drawing, Refusal>
+    ensures answers { λ r. ⌜ Answers (now (text .entry)) r ⌝ }
+    ensures drawn { λ r. ⌜ made r (λ d. Drawn (now (text .entry)) (drawn-names d) (drawn-words d)) ⌝ }
+    ensures wrong { λ r. ⌜ refused r (λ e. Says (now (text .entry)) e) ⌝ }
+{
+    if text.len() > MOST_BYTES {
+        return Err(Refusal::TooLong);
+    }
+    read_lines(heap, text)
 }
