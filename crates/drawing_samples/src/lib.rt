@@ -86,4 +86,43 @@ mod tests {
         }
         Ok(())
     }
+
+    // A drawing of so many places, each with a move to the first.
+    fn row(heap: Global, places: u32) -> Result<String, Fail> {
+        let mut text = String::new(heap);
+        for i in 0..places {
+            let line = format!(heap, "p{i} 0 1: p0\n")?;
+            text.push_str(line.as_str())?;
+        }
+        Ok(text)
+    }
+
+    #[test]
+    fn places_are_few_enough(rt: LibcRuntime) -> Result<(), Fail> {
+        let heap = rt.alloc();
+        let most = row(heap, 16384)?;
+        let d = read(heap, most.as_str())?;
+        check_eq(d.names.len(), 16384)?;
+        check_eq(d.words.len(), 1 + 4 * 16384)?;
+        let over = row(heap, 16385)?;
+        check_eq(said(heap, over.as_str())?.as_str(), "line 16385: more than 16384 places")
+    }
+
+    #[test]
+    fn moves_and_bytes_are_few_enough(rt: LibcRuntime) -> Result<(), Fail> {
+        let heap = rt.alloc();
+        let mut text = String::from_str(heap, "a 0 1:")?;
+        for _ in 0..64000 {
+            text.push_str(" a")?;
+        }
+        let d = read(heap, text.as_str())?;
+        check_eq(d.words.len(), 64004)?;
+        text.push_str(" a")?;
+        check_eq(said(heap, text.as_str())?.as_str(), "line 1: more than 64000 moves in all")?;
+        text.push_str("\n#")?;
+        for _ in 0..1572864 {
+            text.push_str("#")?;
+        }
+        check_eq(said(heap, text.as_str())?.as_str(), "the drawing is longer than 1572864 bytes")
+    }
 }

@@ -19,6 +19,7 @@ reach-code Reached-full = 1
 reach-code Reached-none = 2
 reach-code Reached-few = 3
 reach-code NoPlace = 4
+
 -- the side that a number of C's means
 abbrev pub word-side : ℕ → ℕ
 word-side w = cond (eqb w 1) 1 0

@@ -33,7 +33,13 @@ pub extern "C" fn endless_solve(words: &[u32], out: &mut [u32], work: &mut [u32]
 /// target, uint32_t side, uint32_t *out, size_t, uint32_t *work, size_t)`
 /// answers 0 done, 1 out full, 2 no game, 3 few, 4 no such place.
 #[unsafe(no_mangle)]
-pub extern "C" fn endless_attract_to(words: &[u32], target: u32, side: u32, out: &mut [u32], work: &mut [u32]) -> u32
+pub extern "C" fn endless_attract_to(
+    words: &[u32],
+    target: u32,
+    side: u32,
+    out: &mut [u32],
+    work: &mut [u32],
+) -> u32
     ensures { λ r. ⌜ ((d : Reach) × (r ≡ reach-code d) × ReachPost (now (words .entry)) (length (now (work .entry))) (word-side side) target (now (out .entry)) (now (out .exit)) d) ⌝ }
 {
     let side = if side == 1 { Side::Odd } else { Side::Even };
