@@ -105,7 +105,10 @@ mod tests {
         check_eq(d.names.len(), 16384)?;
         check_eq(d.words.len(), 1 + 4 * 16384)?;
         let over = row(heap, 16385)?;
-        check_eq(said(heap, over.as_str())?.as_str(), "line 16385: more than 16384 places")
+        check_eq(
+            said(heap, over.as_str())?.as_str(),
+            "line 16385: more than 16384 places",
+        )
     }
 
     #[test]
@@ -118,11 +121,17 @@ mod tests {
         let d = read(heap, text.as_str())?;
         check_eq(d.words.len(), 64004)?;
         text.push_str(" a")?;
-        check_eq(said(heap, text.as_str())?.as_str(), "line 1: more than 64000 moves in all")?;
+        check_eq(
+            said(heap, text.as_str())?.as_str(),
+            "line 1: more than 64000 moves in all",
+        )?;
         text.push_str("\n#")?;
         for _ in 0..1572864 {
             text.push_str("#")?;
         }
-        check_eq(said(heap, text.as_str())?.as_str(), "the drawing is longer than 1572864 bytes")
+        check_eq(
+            said(heap, text.as_str())?.as_str(),
+            "the drawing is longer than 1572864 bytes",
+        )
     }
 }

@@ -1,8 +1,8 @@
 mod Tests
-mod Nth
+pub mod Nth
 mod Unique
 mod Exclusive
-mod Places
+pub mod Places
 mod Pigeonhole
 mod Sets
 mod Plays
@@ -19,18 +19,18 @@ mod Cases
 mod Theorems
 mod Readers
 mod BitLaws
-mod CountLaws
+pub mod CountLaws
 mod SetLaws
 mod Scans
-mod Reading
+pub mod Reading
 mod Tallies
 mod PositionLaws
 mod Starts
 mod Pulling
-mod Among
+pub mod Among
 mod Lists
 mod Preds
-mod Sources
+pub mod Sources
 mod Totals
 mod Escapes
 mod Working

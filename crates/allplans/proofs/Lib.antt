@@ -1,0 +1,3 @@
+mod Written
+mod Views
+mod Checks

@@ -1,0 +1,2 @@
+mod Rings
+pub mod Boards
