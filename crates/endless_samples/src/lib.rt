@@ -29,11 +29,20 @@ mod tests {
     fn refusals_leave_the_answer(rt: LibcRuntime) -> Result<(), Fail> {
         let mut work = vec![in rt.alloc(); 7; 65596]?;
         let mut out = [9; 5];
-        let full = matches!(solve(&THREE, &mut out, work.as_mut_slice()), Solved::OutFull);
+        let full = matches!(
+            solve(&THREE, &mut out, work.as_mut_slice()),
+            Solved::OutFull
+        );
         check(full)?;
-        let none = matches!(solve(&[1, 0, 0, 1, 1], &mut out, work.as_mut_slice()), Solved::NoGame);
+        let none = matches!(
+            solve(&[1, 0, 0, 1, 1], &mut out, work.as_mut_slice()),
+            Solved::NoGame
+        );
         check(none)?;
-        let few = matches!(solve(&THREE, &mut out, &mut work.as_mut_slice()[1..]), Solved::Few);
+        let few = matches!(
+            solve(&THREE, &mut out, &mut work.as_mut_slice()[1..]),
+            Solved::Few
+        );
         check(few)?;
         check_eq(out, [9; 5])?;
         check(is_game(&THREE))?;
@@ -44,10 +53,16 @@ mod tests {
     fn a_place_is_brought_about(rt: LibcRuntime) -> Result<(), Fail> {
         let mut work = vec![in rt.alloc(); 7; 65596]?;
         let mut out = [9; 6];
-        let done = matches!(attract_to(&THREE, PlaceId(2), Side::Odd, &mut out, work.as_mut_slice()), Reached::Done);
+        let done = matches!(
+            attract_to(&THREE, PlaceId(2), Side::Odd, &mut out, work.as_mut_slice()),
+            Reached::Done
+        );
         check(done)?;
         check_eq((out[0], out[1], out[2], out[4]), (0, 1, 0, 1))?;
-        let nowhere = matches!(attract_to(&THREE, PlaceId(3), Side::Odd, &mut out, work.as_mut_slice()), Reached::NoPlace);
+        let nowhere = matches!(
+            attract_to(&THREE, PlaceId(3), Side::Odd, &mut out, work.as_mut_slice()),
+            Reached::NoPlace
+        );
         check(nowhere)
     }
 }
