@@ -3,7 +3,7 @@ use Rattle.allplans.proofs.checker.check.Goals as goal
 
 pub returns-in-Right : goal.returns-in-Right
 returns-in-Right c =
-    made_says c.check-rounds.result _ _
-    (λ rounds. right_moved _ _ _ _ _ _ c.as-slice-places.ensures.value c.as-slice-winners.ensures.value c.as-slice-plan.ensures.value
-    (right_answer c.as-slice-places.result.now c.as-slice-winners.result.now c.as-slice-plan.result.now c.if-winners-places.false c.if-plan-places.false c.in-Right.ensures (rounds c.if-plan-places.false).0 (rounds c.if-plan-places.false).1))
-    c.check-rounds.ensures
+    made_says c.check_rounds.result _ _
+    (λ rounds. right_moved _ _ _ _ _ _ c.as_slice-places.ensures.value c.as_slice-winners.ensures.value c.as_slice-plan.ensures.value
+    (right_answer c.as_slice-places.result.now c.as_slice-winners.result.now c.as_slice-plan.result.now c.if-winners-places.false c.if-plan-places.false c.in-Right.ensures (rounds c.if-plan-places.false).0 (rounds c.if-plan-places.false).1))
+    c.check_rounds.ensures

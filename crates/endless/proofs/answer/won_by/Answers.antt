@@ -13,18 +13,18 @@ at_side o n x e = ap (λ (z : Option ℕ). opt z 2 (λ y. y)) e
 word_side : (o : List ℕ) (n w : ℕ) → 2 * n < length o → w ≡ get_or o (2 * n) 0 → side o n ≡ w
 word_side o n w h e = at_side o n _ (nth_in o (2 * n) 0 h) ∙ sym e
 
-pub returns-in-err-word : goal.returns-in-err-word
-returns-in-err-word c =
-    let e = at_side c.args.answer.now c.args.place.0 _ (nth_out c.args.answer.now (2 * c.args.place.0) c.in-err-word.ensures.lookup.3) in
-    subst (WinnerIs c.args.answer.now c.args.place.0) (sym c.from-residual.ensures) (omega (arith, e))
+pub returns-in_err-word : goal.returns-in_err-word
+returns-in_err-word c =
+    let e = at_side c.args.answer.now c.args.place.0 _ (nth_out c.args.answer.now (2 * c.args.place.0) c.in_err-word.ensures.lookup.3) in
+    subst (WinnerIs c.args.answer.now c.args.place.0) (sym c.from_residual.ensures) (omega (arith, e))
 
-pub returns-in-err-side : goal.returns-in-err-side
-returns-in-err-side c =
-    let f = c.in-ok-word.ensures.lookup.3 in
-    subst (WinnerIs c.args.answer.now c.args.place.0) (sym c.from-residual-in-err-side.ensures)
-    (omega (arith, word_side c.args.answer.now c.args.place.0 _ f.0 (f.1 0), c.in-err-side.ensures))
+pub returns-in_err-side : goal.returns-in_err-side
+returns-in_err-side c =
+    let f = c.in_ok-word.ensures.lookup.3 in
+    subst (WinnerIs c.args.answer.now c.args.place.0) (sym c.from_residual-in_err-side.ensures)
+    (omega (arith, word_side c.args.answer.now c.args.place.0 _ f.0 (f.1 0), c.in_err-side.ensures))
 
 pub returns : goal.returns
 returns c =
-    let f = c.in-ok-word.ensures.lookup.3 in
-    word_side c.args.answer.now c.args.place.0 _ f.0 (f.1 0) ∙ c.in-ok-side.ensures
+    let f = c.in_ok-word.ensures.lookup.3 in
+    word_side c.args.answer.now c.args.place.0 _ f.0 (f.1 0) ∙ c.in_ok-side.ensures

@@ -1,5 +1,5 @@
 use Rattle.std.proofs.Common.{ℕ, ◌+◌, ap, arith}
 use Rattle.endless.proofs.attractor.attract.Goals as goal
 
-pub attract-counted-requires : goal.attract-counted-requires
-attract-counted-requires c = record { game = c.requires.game; room = c.requires.room; counted = ap (λ (k : ℕ). c.args.targets + k) c.count.ensures }
+pub attract_counted-requires : goal.attract_counted-requires
+attract_counted-requires c = record { game = c.requires.game; room = c.requires.room; counted = ap (λ (k : ℕ). c.args.targets + k) c.count.ensures }

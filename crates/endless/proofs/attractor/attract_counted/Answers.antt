@@ -7,8 +7,8 @@ use Rattle.endless.proofs.attractor.attract_counted.Goals as goal
 pub queue-init : goal.queue-init
 queue-init c = (queueing_none c.args.graph (number c.args.side) c.args.left.now c.args.queue.now c.args.out.now c.args.targets, c.requires.counted)
 
-pub pull-all-tail-requires : goal.pull-all-tail-requires
-pull-all-tail-requires c =
+pub pull_all-tail-requires : goal.pull_all-tail-requires
+pull_all-tail-requires c =
     let p = c.requires.game in
     let k = c.queue.invariant.0 in
     record {
@@ -24,7 +24,7 @@ pull-all-tail-requires c =
 pub queue-preserved : goal.queue-preserved
 queue-preserved c = (
   queueing_more c.args.graph (number c.args.side) c.args.left.now c.args.queue.now c.args.out.now c.args.targets c.queue.head c.queue.left c.queue.queue c.queue.out c.queue.tail _
-      c.pull-all-tail.new.left c.pull-all-tail.new.queue c.pull-all-tail.new.out c.pull-all-tail.result (omega arith) (omega arith) c.queue.invariant.0 c.pull-all-tail.ensures.moved c.pull-all-tail.ensures.looked,
+      c.pull_all-tail.new.left c.pull_all-tail.new.queue c.pull_all-tail.new.out c.pull_all-tail.result (omega arith) (omega arith) c.queue.invariant.0 c.pull_all-tail.ensures.moved c.pull_all-tail.ensures.looked,
   c.queue.invariant.1,
 )
 
@@ -38,9 +38,9 @@ returns-after-queue c = record {
 pub returns-then-tail-all : goal.returns-then-tail-all
 returns-then-tail-all c =
     let k = queueing_more c.args.graph (number c.args.side) c.args.left.now c.args.queue.now c.args.out.now c.args.targets c.queue.head c.queue.left c.queue.queue c.queue.out c.queue.tail (c.queue.head + 1)
-    c.pull-all-tail.new.left c.pull-all-tail.new.queue c.pull-all-tail.new.out c.pull-all-tail.result (omega arith) refl c.queue.invariant.0 c.pull-all-tail.ensures.moved c.pull-all-tail.ensures.looked in
+    c.pull_all-tail.new.left c.pull_all-tail.new.queue c.pull_all-tail.new.out c.pull_all-tail.result (omega arith) refl c.queue.invariant.0 c.pull_all-tail.ensures.moved c.pull_all-tail.ensures.looked in
     record {
       moved = k.moved;
-      attracts = queueing_all c.args.graph (number c.args.side) c.args.left.now c.args.queue.now c.args.out.now c.args.targets (c.queue.head + 1) c.pull-all-tail.new.left c.pull-all-tail.new.queue c.pull-all-tail.new.out c.pull-all-tail.result
+      attracts = queueing_all c.args.graph (number c.args.side) c.args.left.now c.args.queue.now c.args.out.now c.args.targets (c.queue.head + 1) c.pull_all-tail.new.left c.pull_all-tail.new.queue c.pull_all-tail.new.out c.pull_all-tail.result
           (inr (omega (arith, k.moved.counts, c.queue.invariant.1))) k;
     }

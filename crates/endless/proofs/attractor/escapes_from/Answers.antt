@@ -2,8 +2,8 @@ use Rattle.std.proofs.Common.{arith}
 use Rattle.endless.proofs.Escapes.{move_inside, escapes_some, escapes_none}
 use Rattle.endless.proofs.attractor.escapes_from.Goals as goal
 
-pub round-into-requires : goal.round-into-requires
-round-into-requires c = record {
+pub round_into-requires : goal.round_into-requires
+round_into-requires c = record {
   inside = λ k h.
       let p = c.requires in
       omega (arith, move_inside p.1.shows.reads c.args.place c.moves.result.now (c.moves.ensures p.0 p.2 p.1.shows) k h, p.3);

@@ -3,8 +3,8 @@ use Rattle.endless.proofs.Scans.{counted_more, counted_all}
 use Rattle.endless.proofs.SetLaws.{size_le}
 use Rattle.endless.proofs.bits.count.Goals as goal
 
-pub overflow-add-members : goal.overflow-add-members
-overflow-add-members c =
+pub overflow_add-members : goal.overflow_add-members
+overflow_add-members c =
     let more =
     counted_more c.args.set.now c.loop-word.word-index c.loop-word.members (omega arith) (omega arith) c.loop-word.invariant in
     omega (arith, size_le c.args.set.now)

@@ -4,8 +4,8 @@ use Rattle.endless.proofs.bits.fill.Goals as goal
 
 pub loop-word-preserved : goal.loop-word-preserved
 loop-word-preserved c =
-    filled_more c.loop-word.set c.args.n c.loop-word.word-index c.loop-word.left c.min-here.result c.low-bits.result (omega arith)
-    c.min-here.ensures c.low-bits.ensures c.loop-word.invariant
+    filled_more c.loop-word.set c.args.n c.loop-word.word-index c.loop-word.left c.min-here.result c.low_bits.result (omega arith)
+    c.min-here.ensures c.low_bits.ensures c.loop-word.invariant
 
 pub returns : goal.returns
 returns c =

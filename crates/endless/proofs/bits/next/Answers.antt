@@ -9,7 +9,7 @@ returns-in-Some c =
 
 pub loop-k-preserved : goal.loop-k-preserved
 loop-k-preserved c =
-    (omega arith, passed_more c.args.set.now c.args.from c.loop-k.k c.loop-k.start c.loop-k.invariant.1 c.loop-k.invariant.0 c.in-default.ensures)
+    (omega arith, passed_more c.args.set.now c.args.from c.loop-k.k c.loop-k.start c.loop-k.invariant.1 c.loop-k.invariant.0 c.in_default.ensures)
 
 pub returns : goal.returns
 returns c = passed_all c.args.set.now c.args.from c.loop-k.k c.loop-k.start c.loop-k.invariant.1 c.loop-k-test.false

@@ -16,14 +16,14 @@ returns-then-has c = record {
   holds = λ x. true_T _ (sym c.if-has.ensures);
 }
 
-pub offset-bounds-queue-count : goal.offset-bounds-queue-count
-offset-bounds-queue-count c = omega (arith, spread_room c.args.set.now c.args.part.now c.args.queue.now c.args.count c.args.place c.requires.same c.requires.room c.requires.lists (sym c.if-not-has.ensures) (sym c.if-has.ensures))
+pub offset_bounds-queue-count : goal.offset_bounds-queue-count
+offset_bounds-queue-count c = omega (arith, spread_room c.args.set.now c.args.part.now c.args.queue.now c.args.count c.args.place c.requires.same c.requires.room c.requires.lists (sym c.if-not-has.ensures) (sym c.if-has.ensures))
 
 pub bounds-queue-count : goal.bounds-queue-count
 bounds-queue-count c = spread_room c.args.set.now c.args.part.now c.args.queue.now c.args.count c.args.place c.requires.same c.requires.room c.requires.lists (sym c.if-not-has.ensures) (sym c.if-has.ensures)
 
-pub overflow-add-result : goal.overflow-add-result
-overflow-add-result c = omega (arith, spread_room c.args.set.now c.args.part.now c.args.queue.now c.args.count c.args.place c.requires.same c.requires.room c.requires.lists (sym c.if-not-has.ensures) (sym c.if-has.ensures))
+pub overflow_add-result : goal.overflow_add-result
+overflow_add-result c = omega (arith, spread_room c.args.set.now c.args.part.now c.args.queue.now c.args.count c.args.place c.requires.same c.requires.room c.requires.lists (sym c.if-not-has.ensures) (sym c.if-has.ensures))
 
 pub returns : goal.returns
 returns c = record {

@@ -5,8 +5,8 @@ use Rattle.endless.proofs.Gathering.{in_every, gathering_inside, gathering_room,
 use Rattle.endless.proofs.gather.gather_heaviest.Goals as goal
 use Rattle.endless.proofs.gather.gather_heaviest.Goals.{then-head-heaviest, else-head-heaviest}
 
-pub take-place-requires : goal.take-place-requires
-take-place-requires c =
+pub take_place-requires : goal.take_place-requires
+take_place-requires c =
     let p = c.requires.game in
     let k = c.loop-place.invariant.gathers p.0 p.1 in
     let least = c.in-Some.ensures in
@@ -27,9 +27,9 @@ loop-place-preserved c =
     let inside : (g : Game) → Shows c.args.places g → c.in-Some.place < length g = in_every c.args.places p.1 below in
     let weighs : (g : Game) → Shows c.args.places g → c.head.result.weight ≡ weight g c.in-Some.place = λ g s. (c.head.ensures g (inside g s) s).1 in
     elim c.if-head-heaviest.branch [
-      | then-head-heaviest t ↦ rw (t.left_is, t.queue_is, t.out_is, t.count-is)
-          (giving_take c.loop-place.invariant least weighs t.if-head-heaviest.true (omega arith) (omega (arith, below, p.3)) mine inside t.take-place.ensures)
-      | else-head-heaviest t ↦ rw (t.left_is, t.queue_is, t.out_is, t.count-is) (giving_skip c.loop-place.invariant least weighs t.if-head-heaviest.false)
+      | then-head-heaviest t ↦ rw (t.left-is, t.queue-is, t.out-is, t.count-is)
+          (giving_take c.loop-place.invariant least weighs t.if-head-heaviest.true (omega arith) (omega (arith, below, p.3)) mine inside t.take_place.ensures)
+      | else-head-heaviest t ↦ rw (t.left-is, t.queue-is, t.out-is, t.count-is) (giving_skip c.loop-place.invariant least weighs t.if-head-heaviest.false)
     ]
 
 pub returns : goal.returns
@@ -38,5 +38,5 @@ returns c =
     record {
       counts = (c.loop-place.invariant.gathers p.0 p.1).counts;
       frame = c.loop-place.invariant.frame;
-      gathered = giving_all c.loop-place.invariant c.in-default.ensures;
+      gathered = giving_all c.loop-place.invariant c.in_default.ensures;
     }

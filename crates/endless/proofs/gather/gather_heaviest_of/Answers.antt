@@ -8,8 +8,8 @@ use Rattle.endless.proofs.gather.gather_heaviest_of.Goals as goal
 pub loop-place-init : goal.loop-place-init
 loop-place-init c = taking_none c.args.places (number c.args.side) c.args.heaviest c.args.own.now c.args.left.now c.args.out.now c.args.list.now c.args.queue.now
 
-pub take-heavy-count-requires : goal.take-heavy-count-requires
-take-heavy-count-requires c =
+pub take_heavy-count-requires : goal.take_heavy-count-requires
+take_heavy-count-requires c =
     let p = c.requires.game in
     record {
       game = (p.0, p.1, p.2 c.loop-place.place-index (omega arith), omega (arith, p.3), p.4);
@@ -23,7 +23,7 @@ pub loop-place-preserved : goal.loop-place-preserved
 loop-place-preserved c =
     let p = c.requires.game in
     let below = p.2 c.loop-place.place-index (omega arith) in
-    taking_more c.loop-place.invariant (in_every c.args.places p.1 below) (omega (arith, c.requires.room)) p.1 (omega (arith, below, p.3)) c.take-heavy-count.ensures
+    taking_more c.loop-place.invariant (in_every c.args.places p.1 below) (omega (arith, c.requires.room)) p.1 (omega (arith, below, p.3)) c.take_heavy-count.ensures
 
 pub returns : goal.returns
 returns c =

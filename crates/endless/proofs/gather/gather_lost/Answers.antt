@@ -9,8 +9,8 @@ use Rattle.endless.proofs.SetLaws.{members_below}
 use Rattle.endless.proofs.Picking.{told_in, starts_as}
 use Rattle.endless.proofs.gather.gather_lost.Goals as goal
 
-pub gather-listed-requires : goal.gather-listed-requires
-gather-listed-requires c =
+pub gather_listed-requires : goal.gather_listed-requires
+gather_listed-requires c =
     let p = c.requires.part in
     record {
       answers = λ j h. c.requires.answers _ (p.1.within _ (told_in c.args.list.now p.0 p.1.told j h));
@@ -20,16 +20,16 @@ gather-listed-requires c =
 
 pub returns-then-list-eq0 : goal.returns-then-list-eq0
 returns-then-list-eq0 c = record {
-  counts = c.gather-won.ensures.counts;
-  same = c.gather-won.ensures.same;
+  counts = c.gather_won.ensures.counts;
+  same = c.gather_won.ensures.same;
   starts = λ R part. starts_as _ (having (members c.args.set.now) (side c.args.out.now) (number c.args.winner)) _ _ _ _
       (λ n x. having_in R _ _ n (part.whole c.if-list-eq0.true n (having_within _ _ _ n x)) (having_is _ _ _ n x))
-      (λ n x. having_in _ _ _ n (part.within n (having_within R _ _ n x)) (having_is R _ _ n x)) c.gather-won.ensures.starts;
+      (λ n x. having_in _ _ _ n (part.within n (having_within R _ _ n x)) (having_is R _ _ n x)) c.gather_won.ensures.starts;
 }
 
 pub returns-else-list-eq0 : goal.returns-else-list-eq0
 returns-else-list-eq0 c = record {
-  counts = c.gather-listed.ensures.counts;
-  same = c.gather-listed.ensures.same;
-  starts = λ R part. c.gather-listed.ensures.starts R (omega arith) part.within part.told;
+  counts = c.gather_listed.ensures.counts;
+  same = c.gather_listed.ensures.same;
+  starts = λ R part. c.gather_listed.ensures.starts R (omega arith) part.within part.told;
 }

@@ -12,8 +12,8 @@ use Rattle.endless.proofs.gather.gather_won.Goals.{then-out-place, else-out-plac
 pub remove-requires : goal.remove-requires
 remove-requires c = omega (arith, members_below c.loop-place.set c.in-Some.place c.in-Some.ensures.is)
 
-pub overflow-add-from : goal.overflow-add-from
-overflow-add-from c = omega (arith, gathering_below c.loop-place.invariant c.in-Some.ensures)
+pub overflow_add-from : goal.overflow_add-from
+overflow_add-from c = omega (arith, gathering_below c.loop-place.invariant c.in-Some.ensures)
 
 pub loop-place-smaller : goal.loop-place-smaller
 loop-place-smaller c = let least = c.in-Some.ensures in omega (arith, gathering_below c.loop-place.invariant least, least.after)
@@ -24,14 +24,14 @@ loop-place-preserved c =
     let least = c.in-Some.ensures in
     let here = side_at c.args.out.now c.in-Some.place (c.requires.answers c.in-Some.place (gathering_inside k least)) in
     elim c.if-out-place.branch [
-      | then-out-place w ↦ rw (w.set-is, w.count-is) (gathering_take k least (here ∙ w.if-out-place.true) (omega (arith, gathering_room k least)) w.remove.ensures w.queue_is)
-      | else-out-place w ↦ rw (w.set-is, w.queue_is, w.count-is) (gathering_skip k least (λ e. w.if-out-place.false (sym here ∙ e)))
+      | then-out-place w ↦ rw (w.set-is, w.count-is) (gathering_take k least (here ∙ w.if-out-place.true) (omega (arith, gathering_room k least)) w.remove.ensures w.queue-is)
+      | else-out-place w ↦ rw (w.set-is, w.queue-is, w.count-is) (gathering_skip k least (λ e. w.if-out-place.false (sym here ∙ e)))
     ]
 
 pub returns : goal.returns
 returns c = record {
   counts = c.loop-place.invariant.counts;
   same = c.loop-place.invariant.same;
-  starts = subst (λ (k : ℕ). Starts (members c.args.set.now) (having (members c.args.set.now) (side c.args.out.now) k) c.loop-place.set c.loop-place.queue c.loop-place.count) c.to-word-word.ensures
-      (gathering_all c.loop-place.invariant c.in-default.ensures);
+  starts = subst (λ (k : ℕ). Starts (members c.args.set.now) (having (members c.args.set.now) (side c.args.out.now) k) c.loop-place.set c.loop-place.queue c.loop-place.count) c.to_word-word.ensures
+      (gathering_all c.loop-place.invariant c.in_default.ensures);
 }

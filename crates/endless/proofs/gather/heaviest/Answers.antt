@@ -15,4 +15,4 @@ loop-place-preserved c =
     (λ g s. (c.head.ensures g (in_every c.args.places p.1 (p.2 c.in-Some.place (true_T _ least.is)) g s) s).1) c.max-heaviest.ensures
 
 pub returns : goal.returns
-returns c = weighing_all c.loop-place.invariant c.in-default.ensures
+returns c = weighing_all c.loop-place.invariant c.in_default.ensures

@@ -3,8 +3,8 @@ use Rattle.endless.proofs.Tests.{true_T}
 use Rattle.endless.proofs.Escapes.{move_at, move_inside, escapes_none}
 use Rattle.endless.proofs.gather.move_within.Goals as goal
 
-pub first-into-requires : goal.first-into-requires
-first-into-requires c = record {
+pub first_into-requires : goal.first_into-requires
+first_into-requires c = record {
   span = (omega arith, omega arith);
   inside = λ k h.
       let p = c.requires in

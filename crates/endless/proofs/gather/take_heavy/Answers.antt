@@ -10,11 +10,11 @@ returns-then-not-has c = inl (refl, refl, refl, refl, λ g s l x. absurd (both_w
 pub returns-then-head-heaviest : goal.returns-then-head-heaviest
 returns-then-head-heaviest c = inl (refl, refl, refl, refl, λ g s l x e. c.if-head-heaviest.true ((c.head.ensures g l s).1 ∙ e))
 
-pub take-place-requires : goal.take-place-requires
-take-place-requires c = record { game = c.requires.game; same = omega (arith, c.requires.same); room = omega (arith, c.requires.room, some_size c.args.left.now c.args.place (sym c.if-not-has.ensures)) }
+pub take_place-requires : goal.take_place-requires
+take_place-requires c = record { game = c.requires.game; same = omega (arith, c.requires.same); room = omega (arith, c.requires.room, some_size c.args.left.now c.args.place (sym c.if-not-has.ensures)) }
 
-pub overflow-add-result : goal.overflow-add-result
-overflow-add-result c = omega (arith, c.requires.few, c.requires.small)
+pub overflow_add-result : goal.overflow_add-result
+overflow_add-result c = omega (arith, c.requires.few, c.requires.small)
 
 pub returns : goal.returns
-returns c = inr (refl, true_T _ (sym c.if-not-has.ensures), λ g s l. sym (c.head.ensures g l s).1 ∙ c.if-head-heaviest.false, c.take-place.ensures)
+returns c = inr (refl, true_T _ (sym c.if-not-has.ensures), λ g s l. sym (c.head.ensures g l s).1 ∙ c.if-head-heaviest.false, c.take_place.ensures)

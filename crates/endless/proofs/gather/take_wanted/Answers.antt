@@ -7,17 +7,17 @@ use Rattle.endless.proofs.gather.take_wanted.Goals as goal
 pub returns-then-not-has : goal.returns-then-not-has
 returns-then-not-has c = inl (refl, refl, refl, λ x. absurd (both_ways _ (sym c.if-not-has.ensures) (T_true _ x)))
 
-pub returns-then-not-is-wanted : goal.returns-then-not-is-wanted
-returns-then-not-is-wanted c = inl (refl, refl, refl, λ x. eqb-false _ _ (sym c.if-not-is-wanted.ensures))
+pub returns-then-not-is_wanted : goal.returns-then-not-is_wanted
+returns-then-not-is_wanted c = inl (refl, refl, refl, λ x. eqb-false _ _ (sym c.if-not-is_wanted.ensures))
 
-pub offset-bounds-queue-count : goal.offset-bounds-queue-count
-offset-bounds-queue-count c = omega (arith, c.requires.room, some_size c.args.set.now c.args.place (sym c.if-not-has.ensures))
+pub offset_bounds-queue-count : goal.offset_bounds-queue-count
+offset_bounds-queue-count c = omega (arith, c.requires.room, some_size c.args.set.now c.args.place (sym c.if-not-has.ensures))
 
 pub bounds-queue-count : goal.bounds-queue-count
 bounds-queue-count c = omega (arith, c.requires.room, some_size c.args.set.now c.args.place (sym c.if-not-has.ensures))
 
-pub overflow-add-result : goal.overflow-add-result
-overflow-add-result c = omega (arith, c.requires.room, some_size c.args.set.now c.args.place (sym c.if-not-has.ensures))
+pub overflow_add-result : goal.overflow_add-result
+overflow_add-result c = omega (arith, c.requires.room, some_size c.args.set.now c.args.place (sym c.if-not-has.ensures))
 
 pub returns : goal.returns
-returns c = inr (refl, true_T _ (sym c.if-not-has.ensures), eqb-true _ _ (sym c.if-not-is-wanted.ensures), c.remove.ensures, refl)
+returns c = inr (refl, true_T _ (sym c.if-not-has.ensures), eqb-true _ _ (sym c.if-not-is_wanted.ensures), c.remove.ensures, refl)

@@ -13,8 +13,8 @@ loop-v-init c =
     (λ m. ap₂ (λ a b. get_or (positions a b) m 0) (c.fill.ensures.after (λ y e. e)) (c.fill-2.ensures.after (λ y e. e))
     ∙ positions_none (length c.args.low.now) (length c.args.high.now) m)
 
-pub count-moves-requires : goal.count-moves-requires
-count-moves-requires c =
+pub count_moves-requires : goal.count_moves-requires
+count_moves-requires c =
     let s = c.args.places.words.now in
     let starts = positions c.args.places.low.now c.args.places.high.now in
     let g = c.requires.game.0 in
@@ -33,7 +33,7 @@ loop-v-preserved c =
     let before = λ (g : Game) (placed : Placed s g starts). (let l : c.loop-v.v < length g = omega (arith, c.len-v-end.ensures g placed) in l) in
     let are = λ (g : Game) (placed : Placed s g starts). c.moves.ensures g (before g placed) placed in
     counting_more s starts c.loop-v.v (positions c.loop-v.low c.loop-v.high) c.loop-v.invariant c.moves.result.now before are
-    (positions c.count-moves.new.low c.count-moves.new.high) c.count-moves.ensures
+    (positions c.count_moves.new.low c.count_moves.new.high) c.count_moves.ensures
 
 pub returns : goal.returns
 returns c =

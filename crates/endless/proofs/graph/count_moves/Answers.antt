@@ -4,8 +4,8 @@ use Rattle.endless.proofs.PositionLaws.{positions_length}
 use Rattle.endless.proofs.Totals.{counts_more, counts_fits, counts_all}
 use Rattle.endless.proofs.graph.count_moves.Goals as goal
 
-pub overflow-add-count : goal.overflow-add-count
-overflow-add-count c =
+pub overflow_add-count : goal.overflow_add-count
+overflow_add-count c =
     let fits = counts_fits (positions c.args.low.now c.args.high.now) c.args.targets.now c.loop-target.target-index
     (positions c.loop-target.low c.loop-target.high) c.loop-target.invariant c.loop-target-test.true c.requires.fits in
     omega (arith, c.position-count.ensures)

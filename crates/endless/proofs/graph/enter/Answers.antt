@@ -10,8 +10,8 @@ position-at-requires c =
     let long = positions_length c.args.low.now c.args.high.now c.requires.long in
     (omega (arith, c.requires.room.4.long), omega (arith, c.requires.room.4.long))
 
-pub overflow-sub-at : goal.overflow-sub-at
-overflow-sub-at c =
+pub overflow_sub-at : goal.overflow_sub-at
+overflow_sub-at c =
     let some = enters_some c.args.targets.now c.args.place (positions c.args.low.now c.args.high.now) c.args.preds.now
     c.loop-target.target-index (positions c.loop-target.low c.loop-target.high) c.loop-target.preds c.loop-target.invariant c.loop-target-test.true
     (omega (arith, positions_length c.args.low.now c.args.high.now, positions_length c.loop-target.low c.loop-target.high)) (omega arith)
@@ -24,8 +24,8 @@ put-requires c =
     let long = positions_length c.args.low.now c.args.high.now c.requires.long in
     (omega (arith, c.requires.room.4.long), omega (arith, c.requires.room.4.long))
 
-pub offset-bounds-preds-at : goal.offset-bounds-preds-at
-offset-bounds-preds-at c =
+pub offset_bounds-preds-at : goal.offset_bounds-preds-at
+offset_bounds-preds-at c =
     let some = enters_some c.args.targets.now c.args.place (positions c.args.low.now c.args.high.now) c.args.preds.now
     c.loop-target.target-index (positions c.loop-target.low c.loop-target.high) c.loop-target.preds c.loop-target.invariant c.loop-target-test.true
     (omega (arith, positions_length c.args.low.now c.args.high.now, positions_length c.loop-target.low c.loop-target.high)) (omega arith)

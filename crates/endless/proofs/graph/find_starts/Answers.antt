@@ -7,8 +7,8 @@ use Rattle.endless.proofs.graph.find_starts.Goals as goal
 pub loop-i-init : goal.loop-i-init
 loop-i-init c = starting_start c.args.words.now (positions c.args.low.now c.args.high.now)
 
-pub moves-at-requires : goal.moves-at-requires
-moves-at-requires c =
+pub moves_at-requires : goal.moves_at-requires
+moves_at-requires c =
     let left = place_left c.args.words.now (positions c.loop-i.low c.loop-i.high) c.loop-i.i c.loop-i.at c.loop-i.invariant c.loop-i-test.true in
     (c.requires.game.0, c.loop-i.i, left c.requires.game.0 c.requires.game.1, (c.loop-i.invariant c.requires.game.0 c.requires.game.1).0)
 

@@ -7,8 +7,8 @@ pub read-head-requires : goal.read-head-requires
 read-head-requires c =
     omega (arith, (here c.args.words.now c.requires.0 c.requires.1 c.args.at c.requires.2 c.requires.3).long)
 
-pub slice-bounds-result-end : goal.slice-bounds-result-end
-slice-bounds-result-end c =
+pub slice_bounds-result-end : goal.slice_bounds-result-end
+slice_bounds-result-end c =
     let now = here c.args.words.now c.requires.0 c.requires.1 c.args.at c.requires.2 c.requires.3 in
     omega (arith, now.many, now.room, c.read-head.ensures.moves)
 

@@ -7,8 +7,8 @@ use Rattle.endless.proofs.graph.sum_up.Goals as goal
 pub loop-i-init : goal.loop-i-init
 loop-i-init c = summed_start (positions c.args.low.now c.args.high.now)
 
-pub overflow-add-sum : goal.overflow-add-sum
-overflow-add-sum c =
+pub overflow_add-sum : goal.overflow_add-sum
+overflow_add-sum c =
     let fits = summed_fits (positions c.args.low.now c.args.high.now) c.loop-i.i (positions c.loop-i.low c.loop-i.high) c.loop-i.sum
     c.loop-i.invariant _ c.loop-i-test.true c.requires.fits in
     omega (arith, c.position-sum.ensures)

@@ -15,34 +15,34 @@ use Rattle.endless.proofs.Levels.{room_now, room_set, room_light, room_below, le
 use Rattle.endless.proofs.level.+level.Goals as goal
 use Rattle.endless.proofs.level.+level.Goals.{then-below-gt0, else-below-gt0}
 
-pub split-at-mut-left-requires : goal.split-at-mut-left-requires
-split-at-mut-left-requires t c =
+pub split_at_mut-left-requires : goal.split_at_mut-left-requires
+split_at_mut-left-requires t c =
     let p = c.requires.room in
     let room = room_now c.args.graph p.0 c.args.bound c.args.own.now c.args.rest.now c.args.out.now c.args.queue.now c.args.escapes.now c.loop-remaining.own c.loop-remaining.rest c.loop-remaining.out c.loop-remaining.queue c.loop-remaining.escapes p.1 p.2 c.loop-remaining.invariant.0 (omega arith) (omega arith) (omega arith) (omega arith) (omega arith) in
     let some : 0 < size c.loop-remaining.own = omega (arith, c.loop-remaining.invariant.1) in
     room_set p.0 c.args.bound c.loop-remaining.own c.loop-remaining.rest c.loop-remaining.out c.loop-remaining.queue c.loop-remaining.escapes room some
 
-pub take-part-count-requires : goal.take-part-count-requires
-take-part-count-requires t c =
+pub take_part-count-requires : goal.take_part-count-requires
+take_part-count-requires t c =
     let p = c.requires.room in
     let room = room_now c.args.graph p.0 c.args.bound c.args.own.now c.args.rest.now c.args.out.now c.args.queue.now c.args.escapes.now c.loop-remaining.own c.loop-remaining.rest c.loop-remaining.out c.loop-remaining.queue c.loop-remaining.escapes p.1 p.2 c.loop-remaining.invariant.0 (omega arith) (omega arith) (omega arith) (omega arith) (omega arith) in
-    record { game = (p.0, p.1.shows, room.sized.sets, room.subgame.places); covers = λ some n x. c.requires.covers some n (c.loop-remaining.invariant.0.less n x); inside = λ j h. omega (arith, c.requires.inside j h); same = omega (arith, c.split-at-mut-left.ensures.front-len); queues = omega (arith, room.queues) }
+    record { game = (p.0, p.1.shows, room.sized.sets, room.subgame.places); covers = λ some n x. c.requires.covers some n (c.loop-remaining.invariant.0.less n x); inside = λ j h. omega (arith, c.requires.inside j h); same = omega (arith, c.split_at_mut-left.ensures.front_len); queues = omega (arith, room.queues) }
 
 pub save-requires : goal.save-requires
 save-requires t c =
     let p = c.requires.room in
     let room = room_now c.args.graph p.0 c.args.bound c.args.own.now c.args.rest.now c.args.out.now c.args.queue.now c.args.escapes.now c.loop-remaining.own c.loop-remaining.rest c.loop-remaining.out c.loop-remaining.queue c.loop-remaining.escapes p.1 p.2 c.loop-remaining.invariant.0 (omega arith) (omega arith) (omega arith) (omega arith) (omega arith) in
-    omega (arith, c.split-at-mut-list.ensures.front-len, c.take-part-count.ensures.taken.few, room.queues)
+    omega (arith, c.split_at_mut-list.ensures.front_len, c.take_part-count.ensures.taken.few, room.queues)
 
-pub bring-about-weight-requires : goal.bring-about-weight-requires
-bring-about-weight-requires t c =
+pub bring_about-weight-requires : goal.bring_about-weight-requires
+bring_about-weight-requires t c =
     let p = c.requires.room in
     let room = room_now c.args.graph p.0 c.args.bound c.args.own.now c.args.rest.now c.args.out.now c.args.queue.now c.args.escapes.now c.loop-remaining.own c.loop-remaining.rest c.loop-remaining.out c.loop-remaining.queue c.loop-remaining.escapes p.1 p.2 c.loop-remaining.invariant.0 (omega arith) (omega arith) (omega arith) (omega arith) (omega arith) in
     record {
       game = (p.0, p.1, room.subgame.places, record { sets = room.sized.sets; answers = omega (arith, room.sized.answers); cursors = omega (arith, room.sized.cursors) });
-      part = c.take-part-count.ensures.taken.listed c.save.new.list (omega (arith, c.split-at-mut-list.ensures.front-len)) (λ j h. c.save.ensures j (omega (arith, c.split-at-mut-list.ensures.front-len)));
-      sized = (λ e. c.loop-remaining.invariant.1 ∙ sym (c.take-part-count.ensures.taken.sizes.0 (omega (arith, c.split-at-mut-list.ensures.front-len))), λ h. omega (arith, c.split-at-mut-list.ensures.front-len, c.take-part-count.ensures.taken.sizes.1 (omega (arith, c.split-at-mut-list.ensures.front-len))));
-      same = omega (arith, c.split-at-mut-left.ensures.front-len);
+      part = c.take_part-count.ensures.taken.listed c.save.new.list (omega (arith, c.split_at_mut-list.ensures.front_len)) (λ j h. c.save.ensures j (omega (arith, c.split_at_mut-list.ensures.front_len)));
+      sized = (λ e. c.loop-remaining.invariant.1 ∙ sym (c.take_part-count.ensures.taken.sizes.0 (omega (arith, c.split_at_mut-list.ensures.front_len))), λ h. omega (arith, c.split_at_mut-list.ensures.front_len, c.take_part-count.ensures.taken.sizes.1 (omega (arith, c.split_at_mut-list.ensures.front_len))));
+      same = omega (arith, c.split_at_mut-left.ensures.front_len);
       room = omega (arith, room.queues);
       small = room.small;
     }
@@ -52,25 +52,25 @@ level-requires t c =
     let p = c.requires.room in
     let room = room_now c.args.graph p.0 c.args.bound c.args.own.now c.args.rest.now c.args.out.now c.args.queue.now c.args.escapes.now c.loop-remaining.own c.loop-remaining.rest c.loop-remaining.out c.loop-remaining.queue c.loop-remaining.escapes p.1 p.2 c.loop-remaining.invariant.0 (omega arith) (omega arith) (omega arith) (omega arith) (omega arith) in
     let some : 0 < size c.loop-remaining.own = omega (arith, c.loop-remaining.invariant.1) in
-    let closed = c.take-part-count.ensures.taken.closed p.0 p.1.shows in
-    let heavy = c.bring-about-weight.ensures.heaviest p.0 p.1 (c.take-part-count.ensures.taken.some_place some) in
-    let part = c.take-part-count.ensures.taken.listed c.save.new.list (omega (arith, c.split-at-mut-list.ensures.front-len)) (λ j h. c.save.ensures j (omega (arith, c.split-at-mut-list.ensures.front-len))) in
-    let brought = c.bring-about-weight.ensures.brought p.0 p.1 room.subgame closed in
-    let lighter = room_light p.0 c.args.bound c.bring-about-weight.result.0 c.loop-remaining.own c.loop-remaining.rest c.loop-remaining.out c.loop-remaining.queue c.loop-remaining.escapes c.take-part-count.new.part room closed heavy in (
+    let closed = c.take_part-count.ensures.taken.closed p.0 p.1.shows in
+    let heavy = c.bring_about-weight.ensures.heaviest p.0 p.1 (c.take_part-count.ensures.taken.some_place some) in
+    let part = c.take_part-count.ensures.taken.listed c.save.new.list (omega (arith, c.split_at_mut-list.ensures.front_len)) (λ j h. c.save.ensures j (omega (arith, c.split_at_mut-list.ensures.front_len))) in
+    let brought = c.bring_about-weight.ensures.brought p.0 p.1 room.subgame closed in
+    let lighter = room_light p.0 c.args.bound c.bring_about-weight.result.0 c.loop-remaining.own c.loop-remaining.rest c.loop-remaining.out c.loop-remaining.queue c.loop-remaining.escapes c.take_part-count.new.part room closed heavy in (
       omega (arith, c.decreases, lighter),
       (
         (
           p.0,
           p.1,
-          room_below p.0 c.args.bound c.bring-about-weight.result.0 (c.bring-about-weight.result.0 % 2) c.loop-remaining.own c.loop-remaining.rest c.loop-remaining.out c.loop-remaining.queue c.loop-remaining.escapes
-              c.take-part-count.new.part c.bring-about-weight.new.left c.split-at-mut-left.result.1.now c.bring-about-weight.new.out c.bring-about-weight.new.queue c.bring-about-weight.new.escapes room closed heavy (omega (arith, c.split-at-mut-left.ensures.front-len)) (omega (arith, c.split-at-mut-left.ensures.back_len)) (omega arith) (omega arith) (omega arith)
+          room_below p.0 c.args.bound c.bring_about-weight.result.0 (c.bring_about-weight.result.0 % 2) c.loop-remaining.own c.loop-remaining.rest c.loop-remaining.out c.loop-remaining.queue c.loop-remaining.escapes
+              c.take_part-count.new.part c.bring_about-weight.new.left c.split_at_mut-left.result.1.now c.bring_about-weight.new.out c.bring_about-weight.new.queue c.bring_about-weight.new.escapes room closed heavy (omega (arith, c.split_at_mut-left.ensures.front_len)) (omega (arith, c.split_at_mut-left.ensures.back_len)) (omega arith) (omega arith) (omega arith)
               brought,
         ),
         (
-          c.bring-about-weight.ensures.rest,
+          c.bring_about-weight.ensures.rest,
           (
             λ h n x. (part.told h n).0 (brought.within n x),
-            λ j h. omega (arith, members_below c.loop-remaining.own _ (T_true _ (part.within _ (told_in c.save.new.list _ part.told j h))), c.split-at-mut-left.ensures.front-len),
+            λ j h. omega (arith, members_below c.loop-remaining.own _ (T_true _ (part.within _ (told_in c.save.new.list _ part.told j h))), c.split_at_mut-left.ensures.front_len),
           ),
         ),
       ),
@@ -82,7 +82,7 @@ peel-remaining-requires t c =
     let room = room_now c.args.graph p.0 c.args.bound c.args.own.now c.args.rest.now c.args.out.now c.args.queue.now c.args.escapes.now c.loop-remaining.own c.loop-remaining.rest c.loop-remaining.out c.loop-remaining.queue c.loop-remaining.escapes p.1 p.2 c.loop-remaining.invariant.0 (omega arith) (omega arith) (omega arith) (omega arith) (omega arith) in
     record {
       game = (p.0, p.1, room.subgame.places, record { sets = room.sized.sets; answers = omega (arith, room.sized.answers); cursors = omega (arith, room.sized.cursors) });
-      part = (members c.take-part-count.new.part, c.take-part-count.ensures.taken.listed c.save.new.list (omega (arith, c.split-at-mut-list.ensures.front-len)) (λ j h. c.save.ensures j (omega (arith, c.split-at-mut-list.ensures.front-len))));
+      part = (members c.take_part-count.new.part, c.take_part-count.ensures.taken.listed c.save.new.list (omega (arith, c.split_at_mut-list.ensures.front_len)) (λ j h. c.save.ensures j (omega (arith, c.split_at_mut-list.ensures.front_len))));
       counted = c.loop-remaining.invariant.1;
       room = omega (arith, room.queues);
       small = room.small;
@@ -96,29 +96,29 @@ loop-remaining-preserved t c =
     let p = c.requires.room in
     let room = room_now c.args.graph p.0 c.args.bound c.args.own.now c.args.rest.now c.args.out.now c.args.queue.now c.args.escapes.now c.loop-remaining.own c.loop-remaining.rest c.loop-remaining.out c.loop-remaining.queue c.loop-remaining.escapes p.1 p.2 c.loop-remaining.invariant.0 (omega arith) (omega arith) (omega arith) (omega arith) (omega arith) in
     let some : 0 < size c.loop-remaining.own = omega (arith, c.loop-remaining.invariant.1) in
-    let first = c.take-part-count.ensures.taken.closed p.0 p.1.shows in
-    let part = c.take-part-count.ensures.taken.listed c.save.new.list (omega (arith, c.split-at-mut-list.ensures.front-len)) (λ j h. c.save.ensures j (omega (arith, c.split-at-mut-list.ensures.front-len))) in (
-      leveling_more c.args.graph c.args.own.now c.args.out.now c.loop-remaining.own c.loop-remaining.out c.take-part-count.new.part c.bring-about-weight.new.left c.bring-about-weight.new.out c.if-below-gt0.out c.peel-remaining.new.own c.peel-remaining.new.out
-          (c.bring-about-weight.result.0 % 2) (other (number c.of-weight.result)) c.bring-about-weight.result.0 c.loop-remaining.invariant.0
+    let first = c.take_part-count.ensures.taken.closed p.0 p.1.shows in
+    let part = c.take_part-count.ensures.taken.listed c.save.new.list (omega (arith, c.split_at_mut-list.ensures.front_len)) (λ j h. c.save.ensures j (omega (arith, c.split_at_mut-list.ensures.front_len))) in (
+      leveling_more c.args.graph c.args.own.now c.args.out.now c.loop-remaining.own c.loop-remaining.out c.take_part-count.new.part c.bring_about-weight.new.left c.bring_about-weight.new.out c.if-below-gt0.out c.peel-remaining.new.own c.peel-remaining.new.out
+          (c.bring_about-weight.result.0 % 2) (other (number c.of_weight.result)) c.bring_about-weight.result.0 c.loop-remaining.invariant.0
           (record {
-            sides = (omega arith, other_below (number c.of-weight.result), λ e. not_other (number c.of-weight.result) (other (number c.of-weight.result)) (number_below c.of-weight.result) (e ∙ c.of-weight.ensures) refl, refl);
+            sides = (omega arith, other_below (number c.of_weight.result), λ e. not_other (number c.of_weight.result) (other (number c.of_weight.result)) (number_below c.of_weight.result) (e ∙ c.of_weight.ensures) refl, refl);
             lengths = (omega arith, omega arith, omega arith);
-            inside = λ n x. first.within n ((c.bring-about-weight.ensures.brought p.0 p.1 room.subgame first).within n x);
+            inside = λ n x. first.within n ((c.bring_about-weight.ensures.brought p.0 p.1 room.subgame first).within n x);
             less = c.peel-remaining.ensures.less;
-            closed = λ g gr. c.take-part-count.ensures.taken.closed g gr.shows;
-            heaviest = λ g gr. c.bring-about-weight.ensures.heaviest g gr (c.take-part-count.ensures.taken.some_place some);
-            first_frame = λ n x. c.bring-about-weight.ensures.frame n (λ y. x (first.within n y));
-            brought = λ g gr sub. c.bring-about-weight.ensures.brought g gr sub (c.take-part-count.ensures.taken.closed g gr.shows);
+            closed = λ g gr. c.take_part-count.ensures.taken.closed g gr.shows;
+            heaviest = λ g gr. c.bring_about-weight.ensures.heaviest g gr (c.take_part-count.ensures.taken.some_place some);
+            first_frame = λ n x. c.bring_about-weight.ensures.frame n (λ y. x (first.within n y));
+            brought = λ g gr sub. c.bring_about-weight.ensures.brought g gr sub (c.take_part-count.ensures.taken.closed g gr.shows);
             second_frame = elim c.if-below-gt0.branch [
-              | then-below-gt0 w ↦ λ n x. subst (λ (o : List ℕ). Unchanged c.bring-about-weight.new.out o n) (sym w.out_is) (w.level.ensures.frame n x)
-              | else-below-gt0 w ↦ λ n x. subst (λ (o : List ℕ). Unchanged c.bring-about-weight.new.out o n) (sym w.out_is) (refl, refl)
+              | then-below-gt0 w ↦ λ n x. subst (λ (o : List ℕ). Unchanged c.bring_about-weight.new.out o n) (sym w.out-is) (w.level.ensures.frame n x)
+              | else-below-gt0 w ↦ λ n x. subst (λ (o : List ℕ). Unchanged c.bring_about-weight.new.out o n) (sym w.out-is) (refl, refl)
             ];
             solved = elim c.if-below-gt0.branch [
-              | then-below-gt0 w ↦ λ g gr sub. subst (λ (o : List ℕ). Solves g (members c.bring-about-weight.new.left) (side o) (goes o)) (sym w.out_is) (w.level.ensures.solves g gr sub)
-              | else-below-gt0 w ↦ solves_none c.args.graph c.bring-about-weight.new.left c.if-below-gt0.out (omega (arith, c.bring-about-weight.ensures.rest, w.if-below-gt0.false))
+              | then-below-gt0 w ↦ λ g gr sub. subst (λ (o : List ℕ). Solves g (members c.bring_about-weight.new.left) (side o) (goes o)) (sym w.out-is) (w.level.ensures.solves g gr sub)
+              | else-below-gt0 w ↦ solves_none c.args.graph c.bring_about-weight.new.left c.if-below-gt0.out (omega (arith, c.bring_about-weight.ensures.rest, w.if-below-gt0.false))
             ];
             third_frame = c.peel-remaining.ensures.frame;
-            peels = λ g gr sub. subst (λ (w : ℕ). Peels g (members c.loop-remaining.own) (members c.take-part-count.new.part) w (other (number c.of-weight.result)) (members c.peel-remaining.new.own) c.if-below-gt0.out c.peel-remaining.new.out) (sym c.of-weight.ensures) (c.peel-remaining.ensures.peels g (members c.take-part-count.new.part) gr sub part);
+            peels = λ g gr sub. subst (λ (w : ℕ). Peels g (members c.loop-remaining.own) (members c.take_part-count.new.part) w (other (number c.of_weight.result)) (members c.peel-remaining.new.own) c.if-below-gt0.out c.peel-remaining.new.out) (sym c.of_weight.ensures) (c.peel-remaining.ensures.peels g (members c.take_part-count.new.part) gr sub part);
           }),
       c.peel-remaining.ensures.rest,
     )

@@ -8,13 +8,13 @@ use Rattle.endless.proofs.Steps.{closed_subgame}
 use Rattle.endless.proofs.Levels.{then_unchanged, brought_of, part_counted}
 use Rattle.endless.proofs.level.bring_about.Goals as goal
 
-pub heaviest-in-weight-requires : goal.heaviest-in-weight-requires
-heaviest-in-weight-requires c =
+pub heaviest_in-weight-requires : goal.heaviest_in-weight-requires
+heaviest_in-weight-requires c =
     let p = c.requires.game in
     record { game = (p.0, p.1.shows, λ n x. p.2 n (c.requires.part.within n x)); told = c.requires.part.told; small = omega (arith, c.requires.small, c.requires.same) }
 
-pub gather-targets-targets-requires : goal.gather-targets-targets-requires
-gather-targets-targets-requires c =
+pub gather_targets-targets-requires : goal.gather_targets-targets-requires
+gather_targets-targets-requires c =
     let p = c.requires.game in
     record {
       game = (p.0, p.1.shows, λ n x. p.2 n (c.requires.part.within n x), p.3.answers, p.3.sets);
@@ -24,10 +24,10 @@ gather-targets-targets-requires c =
       small = c.requires.small;
     }
 
-pub attract-counted-taken-requires : goal.attract-counted-taken-requires
-attract-counted-taken-requires c =
+pub attract_counted-taken-requires : goal.attract_counted-taken-requires
+attract_counted-taken-requires c =
     let p = c.requires.game in
-    let starts = (c.gather-targets-targets.ensures.gathered p.0 p.1.shows).starts in
+    let starts = (c.gather_targets-targets.ensures.gathered p.0 p.1.shows).starts in
     record {
       game = (
         p.0,
@@ -36,24 +36,24 @@ attract-counted-taken-requires c =
         λ n x. p.2 n (c.requires.part.within n (starts.rest n x)),
         λ j h. p.2 _ (c.requires.part.within _ (starts.inside _ (starts.first j h))),
       );
-      room = omega (arith, c.gather-targets-targets.ensures.counts, c.requires.room, size_sub c.args.left.now c.args.own.now c.requires.same (λ j x. T_true _ (c.requires.part.within j (true_T _ x))));
-      counted = part_counted c.args.list.now c.args.many c.part-size-all.result (size c.args.left.now) c.requires.sized c.part-size-all.ensures ∙ sym c.gather-targets-targets.ensures.counts;
+      room = omega (arith, c.gather_targets-targets.ensures.counts, c.requires.room, size_sub c.args.left.now c.args.own.now c.requires.same (λ j x. T_true _ (c.requires.part.within j (true_T _ x))));
+      counted = part_counted c.args.list.now c.args.many c.part_size-all.result (size c.args.left.now) c.requires.sized c.part_size-all.ensures ∙ sym c.gather_targets-targets.ensures.counts;
     }
 
-pub overflow-sub-result : goal.overflow-sub-result
-overflow-sub-result c = omega (arith, part_counted c.args.list.now c.args.many c.part-size-all.result (size c.args.left.now) c.requires.sized c.part-size-all.ensures, c.gather-targets-targets.ensures.counts, c.attract-counted-taken.ensures.moved.counts)
+pub overflow_sub-result : goal.overflow_sub-result
+overflow_sub-result c = omega (arith, part_counted c.args.list.now c.args.many c.part_size-all.result (size c.args.left.now) c.requires.sized c.part_size-all.ensures, c.gather_targets-targets.ensures.counts, c.attract_counted-taken.ensures.moved.counts)
 
 pub returns : goal.returns
 returns c =
     let p = c.requires.game in
-    let starts = (c.gather-targets-targets.ensures.gathered p.0 p.1.shows).starts in
+    let starts = (c.gather_targets-targets.ensures.gathered p.0 p.1.shows).starts in
     record {
-      rest = omega (arith, part_counted c.args.list.now c.args.many c.part-size-all.result (size c.args.left.now) c.requires.sized c.part-size-all.ensures, c.gather-targets-targets.ensures.counts, c.attract-counted-taken.ensures.moved.counts);
-      heaviest = λ g gr. c.heaviest-in-weight.ensures g gr.shows;
-      frame = λ n x. then_unchanged c.args.out.now c.gather-targets-targets.new.out c.attract-counted-taken.new.out n (c.gather-targets-targets.ensures.frame n x) (c.attract-counted-taken.ensures.moved.frame n (λ y. absurd (x (starts.rest n y))));
+      rest = omega (arith, part_counted c.args.list.now c.args.many c.part_size-all.result (size c.args.left.now) c.requires.sized c.part_size-all.ensures, c.gather_targets-targets.ensures.counts, c.attract_counted-taken.ensures.moved.counts);
+      heaviest = λ g gr. c.heaviest_in-weight.ensures g gr.shows;
+      frame = λ n x. then_unchanged c.args.out.now c.gather_targets-targets.new.out c.attract_counted-taken.new.out n (c.gather_targets-targets.ensures.frame n x) (c.attract_counted-taken.ensures.moved.frame n (λ y. absurd (x (starts.rest n y))));
       brought = λ g gr sub closed.
-          let ga = c.gather-targets-targets.ensures.gathered g gr.shows in
-          subst (λ (w : ℕ). Brought g (members c.args.left.now) w c.heaviest-in-weight.result (members c.attract-counted-taken.new.left) c.attract-counted-taken.new.out) (sym c.of-weight-side.ensures)
-          (brought_of g (members c.args.own.now) (members c.args.left.now) (number c.of-weight-side.result) c.heaviest-in-weight.result c.gather-targets-targets.new.left c.gather-targets-targets.new.queue c.gather-targets-targets.new.out c.gather-targets-targets.result c.attract-counted-taken.new.left c.attract-counted-taken.new.queue c.attract-counted-taken.new.out c.attract-counted-taken.result
-          sub closed (omega arith) ga c.attract-counted-taken.ensures.moved (c.attract-counted-taken.ensures.attracts g (members c.args.left.now) _ gr (closed_subgame sub closed) ga.starts));
+          let ga = c.gather_targets-targets.ensures.gathered g gr.shows in
+          subst (λ (w : ℕ). Brought g (members c.args.left.now) w c.heaviest_in-weight.result (members c.attract_counted-taken.new.left) c.attract_counted-taken.new.out) (sym c.of_weight-side.ensures)
+          (brought_of g (members c.args.own.now) (members c.args.left.now) (number c.of_weight-side.result) c.heaviest_in-weight.result c.gather_targets-targets.new.left c.gather_targets-targets.new.queue c.gather_targets-targets.new.out c.gather_targets-targets.result c.attract_counted-taken.new.left c.attract_counted-taken.new.queue c.attract_counted-taken.new.out c.attract_counted-taken.result
+          sub closed (omega arith) ga c.attract_counted-taken.ensures.moved (c.attract_counted-taken.ensures.attracts g (members c.args.left.now) _ gr (closed_subgame sub closed) ga.starts));
     }

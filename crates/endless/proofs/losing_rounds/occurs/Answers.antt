@@ -22,4 +22,4 @@ loop-place-preserved c =
     )
 
 pub returns : goal.returns
-returns c = λ g s r n x e. c.loop-place.invariant.1 g s n (before c.args.set.now c.loop-place.from n (c.in-default.ensures n) x) x e
+returns c = λ g s r n x e. c.loop-place.invariant.1 g s n (before c.args.set.now c.loop-place.from n (c.in_default.ensures n) x) x e

@@ -5,7 +5,7 @@ use Rattle.endless.proofs.SetLaws.{members_below}
 use Rattle.endless.proofs.Gathering.{in_every}
 use Rattle.endless.proofs.Falling.{fallen_more, fallen_all}
 use Rattle.endless.proofs.ranks.first_rise.Goals as goal
-use Rattle.endless.proofs.ranks.first_rise.Goals.{then-head-heaviest+else-not-falls-at, else-head-heaviest}
+use Rattle.endless.proofs.ranks.first_rise.Goals.{then-head-heaviest+else-not-falls_at, else-head-heaviest}
 
 pub loop-place-preserved : goal.loop-place-preserved
 loop-place-preserved c =
@@ -17,7 +17,7 @@ loop-place-preserved c =
           (λ g s b.
           let here = in_every c.args.places p.1 (p.2 c.in-Some.place mine) g s in
           elim c.if-head-heaviest.branch [
-            | then-head-heaviest+else-not-falls-at y ↦ y.if-not-falls-at.ensures g s here refl
+            | then-head-heaviest+else-not-falls_at y ↦ y.if-not-falls_at.ensures g s here refl
             | else-head-heaviest y ↦ absurd (omega (arith, y.if-head-heaviest.false, (c.head.ensures g here s).1))
           ]),
     )

@@ -27,8 +27,8 @@ attract-requires c =
       small = omega (arith, f.small);
     }
 
-pub give-all-requires : goal.give-all-requires
-give-all-requires c =
+pub give_all-requires : goal.give_all-requires
+give_all-requires c =
     let p = c.requires in
     let f = p.3 in
     let st = only_starts p.0 c.args.left.now c.remove.new.set c.args.queue.now c.args.target f.are p.2 c.remove.ensures (omega (arith, p.2, f.queues)) in
@@ -45,10 +45,10 @@ returns c =
     let st = only_starts p.0 c.args.left.now c.remove.new.set c.args.queue.now c.args.target f.are p.2 c.remove.ensures (omega (arith, p.2, f.queues)) in
     let attracts = c.attract.ensures.attracts p.0 (whole p.0) (Only p.0 c.args.target) p.1 (whole_subgame p.1.shows.reads) st in
     record {
-      frame = λ g gr. subst (λ (g : Game). (n : ℕ) → length g ≤ n → Unchanged c.args.out.now c.give-all.new.out n)
+      frame = λ g gr. subst (λ (g : Game). (n : ℕ) → length g ≤ n → Unchanged c.args.out.now c.give_all.new.out n)
           (one_game c.args.graph.places.words.now p.0 g p.1.shows.reads gr.shows.reads)
-          (divided_frame p.1.shows.reads c.args.graph.places p.1.shows two p.2 f c.give.ensures c.remove.ensures c.attract.ensures.moved attracts c.other.ensures c.give-all.ensures (omega arith) (omega arith));
-      reaches = λ g gr. subst (λ (g : Game). Reaches g (number c.args.winner) c.args.target (side c.give-all.new.out) (goes c.give-all.new.out))
+          (divided_frame p.1.shows.reads c.args.graph.places p.1.shows two p.2 f c.give.ensures c.remove.ensures c.attract.ensures.moved attracts c.other.ensures c.give_all.ensures (omega arith) (omega arith));
+      reaches = λ g gr. subst (λ (g : Game). Reaches g (number c.args.winner) c.args.target (side c.give_all.new.out) (goes c.give_all.new.out))
           (one_game c.args.graph.places.words.now p.0 g p.1.shows.reads gr.shows.reads)
-          (divided_reaches p.1.shows.reads c.args.graph.places p.1.shows two p.2 f c.give.ensures c.remove.ensures c.attract.ensures.moved attracts c.other.ensures c.give-all.ensures (omega arith) (omega arith));
+          (divided_reaches p.1.shows.reads c.args.graph.places p.1.shows two p.2 f c.give.ensures c.remove.ensures c.attract.ensures.moved attracts c.other.ensures c.give_all.ensures (omega arith) (omega arith));
     }

@@ -26,4 +26,4 @@ loop-place-preserved c =
     (omega (arith, members_below c.args.set.now c.in-Some.place least.is), handed_more c.args.set.now c.loop-place.invariant.1 least (omega (arith, here, p.3)) (in_every c.args.places p.1 here) c.give.ensures)
 
 pub returns : goal.returns
-returns c = handed_all c.args.set.now c.loop-place.invariant.1 c.in-default.ensures _
+returns c = handed_all c.args.set.now c.loop-place.invariant.1 c.in_default.ensures _

@@ -6,11 +6,11 @@ use Rattle.endless.proofs.verdict.check.Goals as goal
 
 pub returns-in-Some : goal.returns-in-Some
 returns-in-Some c =
-    let g = c.if-not-is-game.ensures.says.0 tt in
-    wrong_checked c.args.words.now (length c.args.work.now) c.args.answer.now g.0 c.in-Some.reason (leb-true _ _ (sym c.if-not-is-enough.ensures)) g.1 (c.in-Some.ensures g.0 g.1)
+    let g = c.if-not-is_game.ensures.says.0 tt in
+    wrong_checked c.args.words.now (length c.args.work.now) c.args.answer.now g.0 c.in-Some.reason (leb-true _ _ (sym c.if-not-is_enough.ensures)) g.1 (c.in-Some.ensures g.0 g.1)
 
 pub returns-in-None : goal.returns-in-None
 returns-in-None c =
-    let g = c.if-not-is-game.ensures.says.0 tt in
-    right_checked c.args.words.now (length c.args.work.now) c.args.answer.now g.0 (leb-true _ _ (sym c.if-not-is-enough.ensures)) g.1
+    let g = c.if-not-is_game.ensures.says.0 tt in
+    right_checked c.args.words.now (length c.args.work.now) c.args.answer.now g.0 (leb-true _ _ (sym c.if-not-is_enough.ensures)) g.1
     (solves_answer g.1 (omega (arith, c.in-Enough.ensures, places_are c.args.words.now g.0 g.1)) (c.in-None.ensures g.0 g.1))

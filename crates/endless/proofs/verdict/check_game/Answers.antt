@@ -18,8 +18,8 @@ returns-in-None c = λ g r.
     let here = places_are c.args.words.now g r in
     let p = c.requires in
     let there = places_are c.args.words.now p.0 p.1 in
-    let sp = c.spread_all.ensures g r in
+    let sp = c.spread-all.ensures g r in
     let long : 2 * length g ≤ length o = omega (arith, p.2) in
-    both_hold g o (λ n l. subst (λ (k : ℕ). k < 2) (sym (side_at o n (omega arith))) (c.in-default.ensures n (omega arith)))
-    (c.in-default-check-side.ensures g sp.graphs long sp.tabled)
-    (c.in-None.ensures g sp.graphs long (tabled_again c.check-side.auto.set c.check-side.auto.left c.check-side.auto.queue c.check-side.auto.ranks sp.tabled))
+    both_hold g o (λ n l. subst (λ (k : ℕ). k < 2) (sym (side_at o n (omega arith))) (c.in_default.ensures n (omega arith)))
+    (c.in_default-check_side.ensures g sp.graphs long sp.tabled)
+    (c.in-None.ensures g sp.graphs long (tabled_again c.check_side.auto.set c.check_side.auto.left c.check_side.auto.queue c.check_side.auto.ranks sp.tabled))

@@ -9,6 +9,6 @@ loop-place-init c = given_none c.args.answer.now (number c.args.side) c.fill.new
 
 pub loop-place-preserved : goal.loop-place-preserved
 loop-place-preserved c = elim c.if-answer-place.branch [
-  | then-answer-place t ↦ rw t.set-is (given_more c.args.answer.now (number c.args.side) c.loop-place.place c.loop-place.set t.insert.new.set c.loop-place.invariant (t.if-answer-place.true ∙ c.to-word.ensures) t.insert.ensures)
-  | else-answer-place t ↦ rw t.set-is (given_skip c.args.answer.now (number c.args.side) c.loop-place.place c.loop-place.set c.loop-place.invariant (λ e. t.if-answer-place.false (e ∙ sym c.to-word.ensures)))
+  | then-answer-place t ↦ rw t.set-is (given_more c.args.answer.now (number c.args.side) c.loop-place.place c.loop-place.set t.insert.new.set c.loop-place.invariant (t.if-answer-place.true ∙ c.to_word.ensures) t.insert.ensures)
+  | else-answer-place t ↦ rw t.set-is (given_skip c.args.answer.now (number c.args.side) c.loop-place.place c.loop-place.set c.loop-place.invariant (λ e. t.if-answer-place.false (e ∙ sym c.to_word.ensures)))
 ]

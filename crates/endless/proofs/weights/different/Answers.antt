@@ -7,16 +7,16 @@ use Rattle.endless.proofs.weights.different.Goals.{then-count-gt0, else-count-gt
 pub loop-count-init : goal.loop-count-init
 loop-count-init c = sym (count_zero (λ k. ltb 0 (get_or c.args.counts.now k 0)))
 
-pub overflow-add-different : goal.overflow-add-different
-overflow-add-different c = omega (arith, count_le (λ k. ltb 0 (get_or c.args.counts.now k 0)) c.loop-count.count_index)
+pub overflow_add-different : goal.overflow_add-different
+overflow_add-different c = omega (arith, count_le (λ k. ltb 0 (get_or c.args.counts.now k 0)) c.loop-count.count-index)
 
 pub loop-count-preserved : goal.loop-count-preserved
 loop-count-preserved c =
     elim c.if-count-gt0.branch [
       | then-count-gt0 w ↦
           w.different-is ∙ ap (λ n. n + 1) c.loop-count.invariant
-          ∙ sym (count_more_yes (λ k. ltb 0 (get_or c.args.counts.now k 0)) c.loop-count.count_index (lt-ltb 0 _ w.if-count-gt0.true))
+          ∙ sym (count_more_yes (λ k. ltb 0 (get_or c.args.counts.now k 0)) c.loop-count.count-index (lt-ltb 0 _ w.if-count-gt0.true))
       | else-count-gt0 w ↦
           w.different-is ∙ c.loop-count.invariant
-          ∙ sym (count_more_no (λ k. ltb 0 (get_or c.args.counts.now k 0)) c.loop-count.count_index (le-ltb 0 _ w.if-count-gt0.false))
+          ∙ sym (count_more_no (λ k. ltb 0 (get_or c.args.counts.now k 0)) c.loop-count.count-index (le-ltb 0 _ w.if-count-gt0.false))
     ]

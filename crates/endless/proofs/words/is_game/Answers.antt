@@ -6,28 +6,28 @@ use Rattle.endless.proofs.Places.{ok_size}
 use Rattle.endless.proofs.Theorems.{parts}
 use Rattle.endless.proofs.words.is_game.Goals as goal
 
-pub returns-in-default : goal.returns-in-default
-returns-in-default c = record {
-  says = (λ t. absurd t, λ g. let size = ok_size c.args.words.now g.0 g.1 in c.in-default.ensures _ _ g.1.is size.0 size.1);
+pub returns-in_default : goal.returns-in_default
+returns-in_default c = record {
+  says = (λ t. absurd t, λ g. let size = ok_size c.args.words.now g.0 g.1 in c.in_default.ensures _ _ g.1.is size.0 size.1);
   parts = parts;
 }
 
 pub loop-init : goal.loop-init
 loop-init c = let p = c.in-Some.ensures in reading_none c.args.words.now c.in-Some.places p.0 p.1 p.2 p.3
 
-pub place-end-requires : goal.place-end-requires
-place-end-requires c = c.loop.invariant.within
+pub place_end-requires : goal.place_end-requires
+place_end-requires c = c.loop.invariant.within
 
-pub returns-in-default-place-end : goal.returns-in-default-place-end
-returns-in-default-place-end c = record {
-  says = (λ t. absurd t, λ g. reading_stops c.args.words.now c.in-Some.places c.loop.counter c.loop.at c.loop-test.true c.loop.invariant c.in-default-place-end.ensures g.0 g.1);
+pub returns-in_default-place_end : goal.returns-in_default-place_end
+returns-in_default-place_end c = record {
+  says = (λ t. absurd t, λ g. reading_stops c.args.words.now c.in-Some.places c.loop.counter c.loop.at c.loop-test.true c.loop.invariant c.in_default-place_end.ensures g.0 g.1);
   parts = parts;
 }
 
 pub loop-preserved : goal.loop-preserved
 loop-preserved c =
-    let st = c.in-Some-place-end.ensures in
-    reading_more c.args.words.now c.in-Some.places c.loop.counter c.loop.at st.0 c.in-Some-place-end.end c.loop-test.true c.loop.invariant st.1
+    let st = c.in-Some-place_end.ensures in
+    reading_more c.args.words.now c.in-Some.places c.loop.counter c.loop.at st.0 c.in-Some-place_end.end c.loop-test.true c.loop.invariant st.1
 
 pub returns : goal.returns
 returns c =

@@ -6,12 +6,12 @@ pub returns : goal.returns
 returns c =
     head_and_moves
     (vec_items c.args.words.now)
-    (vec_items c.extend-from-slice.new.self)
-    (vec_items c.extend-from-slice-2.new.self)
+    (vec_items c.extend_from_slice.new.self)
+    (vec_items c.extend_from_slice-2.new.self)
     (vec_items c.args.self.now.moves)
     c.args.self.now.whose
     c.args.self.now.weight
     _
-    (c.in-ok-extend-from-slice.ensures.items
-    ∙ ap (λ (n : ℕ). vec_items c.args.words.now ++ (c.args.self.now.whose ∷ c.args.self.now.weight ∷ n ∷ [])) (c.in-ok-moves.ensures ∙ c.len.ensures))
-    (c.in-ok-extend-from-slice-2.ensures.items ∙ ap (λ (l : List ℕ). vec_items c.extend-from-slice.new.self ++ l) c.as-slice.ensures.value)
+    (c.in_ok-extend_from_slice.ensures.items
+    ∙ ap (λ (n : ℕ). vec_items c.args.words.now ++ (c.args.self.now.whose ∷ c.args.self.now.weight ∷ n ∷ [])) (c.in_ok-moves.ensures ∙ c.len.ensures))
+    (c.in_ok-extend_from_slice-2.ensures.items ∙ ap (λ (l : List ℕ). vec_items c.extend_from_slice.new.self ++ l) c.as_slice.ensures.value)

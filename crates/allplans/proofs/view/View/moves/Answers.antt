@@ -6,4 +6,4 @@ pub returns-then-here-self : goal.returns-then-here-self
 returns-then-here-self c = λ level h. c.planned.ensures (omega arith) ∙ sym (goes_planned c.args.self.places.now c.args.self.plan.now c.args.self.side c.args.place c.index-self-place.result h c.if-here-self.true)
 
 pub returns-else-here-self : goal.returns-else-here-self
-returns-else-here-self c = λ level h. c.as-slice.ensures.value ∙ sym (goes_free c.args.self.places.now c.args.self.plan.now c.args.self.side c.args.place c.index-self-place.result h c.if-here-self.false)
+returns-else-here-self c = λ level h. c.as_slice.ensures.value ∙ sym (goes_free c.args.self.places.now c.args.self.plan.now c.args.self.side c.args.place c.index-self-place.result h c.if-here-self.false)

@@ -6,8 +6,8 @@ use Rattle.endless.proofs.graph.Places.moves.Goals as goal
 pub position-requires : goal.position-requires
 position-requires c = positions_within c.args.self.low.now c.args.self.high.now c.args.n (omega (arith, c.requires.1, c.requires.2.long))
 
-pub moves-at-requires : goal.moves-at-requires
-moves-at-requires c = (
+pub moves_at-requires : goal.moves_at-requires
+moves_at-requires c = (
   c.requires.0,
   c.args.n,
   c.requires.1,
