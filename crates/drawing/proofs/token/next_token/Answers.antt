@@ -5,23 +5,23 @@ use Rattle.drawing.specs.Lexed.{Lexed}
 use Rattle.drawing.proofs.Tokens.{cut_dark, cut_first, next_bare}
 use Rattle.drawing.proofs.token.next_token.Goals as goal
 
-pub split-at-requires : goal.split-at-requires
-split-at-requires c =
-    let whole = c.as-bytes.ensures.value in
-    cut_dark c.args.line.now _ (subst IsUtf8 whole c.as-bytes.ensures.utf8) (c.blank-len.ensures ∙ ap (until dark) whole)
+pub split_at-requires : goal.split_at-requires
+split_at-requires c =
+    let whole = c.as_bytes.ensures.value in
+    cut_dark c.args.line.now _ (subst IsUtf8 whole c.as_bytes.ensures.utf8) (c.blank_len.ensures ∙ ap (until dark) whole)
 
-pub split-at-requires-then-first-eq58 : goal.split-at-requires-then-first-eq58
-split-at-requires-then-first-eq58 c =
-    let whole = c.as-bytes-2.ensures.value in
-    cut_first c.split-at.result.1.now 58 (subst IsUtf8 whole c.as-bytes-2.ensures.utf8) (eqb-false _ 0 (sym c.if-is-empty.ensures)) (sym (ap (λ l. get_or l 0 0) whole) ∙ c.if-first-eq58.true) (omega arith)
+pub split_at-requires-then-first-eq58 : goal.split_at-requires-then-first-eq58
+split_at-requires-then-first-eq58 c =
+    let whole = c.as_bytes-2.ensures.value in
+    cut_first c.split_at.result.1.now 58 (subst IsUtf8 whole c.as_bytes-2.ensures.utf8) (eqb-false _ 0 (sym c.if-is_empty.ensures)) (sym (ap (λ l. get_or l 0 0) whole) ∙ c.if-first-eq58.true) (omega arith)
 
-pub split-at-requires-then-first-eq34 : goal.split-at-requires-then-first-eq34
-split-at-requires-then-first-eq34 c =
-    let whole = c.as-bytes-2.ensures.value in
-    cut_first c.split-at.result.1.now 34 (subst IsUtf8 whole c.as-bytes-2.ensures.utf8) (eqb-false _ 0 (sym c.if-is-empty.ensures)) (sym (ap (λ l. get_or l 0 0) whole) ∙ c.if-first-eq34.true) (omega arith)
+pub split_at-requires-then-first-eq34 : goal.split_at-requires-then-first-eq34
+split_at-requires-then-first-eq34 c =
+    let whole = c.as_bytes-2.ensures.value in
+    cut_first c.split_at.result.1.now 34 (subst IsUtf8 whole c.as_bytes-2.ensures.utf8) (eqb-false _ 0 (sym c.if-is_empty.ensures)) (sym (ap (λ l. get_or l 0 0) whole) ∙ c.if-first-eq34.true) (omega arith)
 
 pub returns : goal.returns
 returns c =
-    let first = ap (λ l. get_or l 0 0) c.as-bytes-2.ensures.value in
-    let same = next_bare c.args.line.now c.split-at.result.1.now _ (c.blank-len.ensures ∙ ap (until dark) c.as-bytes.ensures.value) c.split-at.ensures.back (eqb-false _ 0 (sym c.if-is-empty.ensures)) (λ e. c.if-first-eq35.false (first ∙ e)) (λ e. c.if-first-eq58.false (first ∙ e)) (λ e. c.if-first-eq34.false (first ∙ e)) in
+    let first = ap (λ l. get_or l 0 0) c.as_bytes-2.ensures.value in
+    let same = next_bare c.args.line.now c.split_at.result.1.now _ (c.blank_len.ensures ∙ ap (until dark) c.as_bytes.ensures.value) c.split_at.ensures.back (eqb-false _ 0 (sym c.if-is_empty.ensures)) (λ e. c.if-first-eq35.false (first ∙ e)) (λ e. c.if-first-eq58.false (first ∙ e)) (λ e. c.if-first-eq34.false (first ∙ e)) in
     subst (λ x. Lexed x c.bare_word.result) (sym same) c.bare_word.ensures

@@ -6,7 +6,7 @@ use Rattle.pgsolver.proofs.ids.index.Goals as goal
 
 pub loop-n-init : goal.loop-n-init
 loop-n-init c =
-    let t = c.in-ok-ids.ensures in
+    let t = c.in_ok-ids.ensures in
     (omega arith, t.0, t.1, apart_none _ t.1)
 
 pub returns-in-Some : goal.returns-in-Some
@@ -19,8 +19,8 @@ add-requires c = record { sound = c.loop-n.invariant.1; room = omega (arith, c.r
 
 pub loop-n-preserved : goal.loop-n-preserved
 loop-n-preserved c =
-    let t = c.in-ok-add.ensures in
-    let f = c.in-default.ensures in
+    let t = c.in_ok-add.ensures in
+    let f = c.in_default.ensures in
     (omega (arith, c.loop-n-test.true), t.0, ids_more _ _ c.loop-n-test.true _ _ refl _ _ c.loop-n.invariant.2 t.1, subst Apart (sym t.1) (apart_more _ _ c.loop-n.invariant.3 f))
 
 pub returns : goal.returns

@@ -5,4 +5,4 @@ use Rattle.pgsolver.proofs.Goals.{name_is}
 use Rattle.pgsolver.proofs.node.name.Goals as goal
 
 pub returns : goal.returns
-returns c = ap (name_on c.args.text.now) (sym c.in-Some.ensures) ∙ name_is c.in-Some.rest.now _ c.quote-at-n.ensures c.if-n-rest.false
+returns c = ap (name_on c.args.text.now) (sym c.in-Some.ensures) ∙ name_is c.in-Some.rest.now _ c.quote_at-n.ensures c.if-n-rest.false

@@ -7,29 +7,29 @@ use Rattle.pgsolver.proofs.text.read_nodes.Goals as goal
 pub loop-here-init : goal.loop-here-init
 loop-here-init c = nodes_first _ _ c.new-out.ensures
 
-pub returns-then-is-empty : goal.returns-then-is-empty
-returns-then-is-empty c = (c.loop-here.invariant.read, nodes_all _ _ _ c.loop-here.invariant _ c.skip_here.ensures (eqb-true _ 0 (sym c.if-is-empty.ensures)), c.loop-here.invariant.holds)
+pub returns-then-is_empty : goal.returns-then-is_empty
+returns-then-is_empty c = (c.loop-here.invariant.read, nodes_all _ _ _ c.loop-here.invariant _ c.skip-here.ensures (eqb-true _ 0 (sym c.if-is_empty.ensures)), c.loop-here.invariant.holds)
 
-pub returns-then-len-ge-MOST-NODES : goal.returns-then-len-ge-MOST-NODES
-returns-then-len-ge-MOST-NODES c = nodes_many _ _ _ c.loop-here.invariant _ c.skip_here.ensures (eqb-false _ 0 (sym c.if-is-empty.ensures)) (omega (arith, c.if-len-ge-MOST-NODES.true, c.len.ensures, c.loop-here.out.nodes.ok.0))
+pub returns-then-len-ge-MOST_NODES : goal.returns-then-len-ge-MOST_NODES
+returns-then-len-ge-MOST_NODES c = nodes_many _ _ _ c.loop-here.invariant _ c.skip-here.ensures (eqb-false _ 0 (sym c.if-is_empty.ensures)) (omega (arith, c.if-len-ge-MOST_NODES.true, c.len.ensures, c.loop-here.out.nodes.ok.0))
 
-pub returns-in-err-rest : goal.returns-in-err-rest
-returns-in-err-rest c =
-    let p = err_from_is_err_and c.from-residual.result c.from-residual.ensures.1 in
-    let some = eqb-false _ 0 (sym c.if-is-empty.ensures) in
-    let few : length (vec_items c.loop-here.out.nodes) < 16384 = omega (arith, c.if-len-ge-MOST-NODES.false, c.len.ensures, c.loop-here.out.nodes.ok.0) in
-    rw (p.1, p.2) (stops_on _ _ (nodes_slip _ _ _ c.loop-here.invariant _ c.skip_here.ensures some few) _ c.in-err-rest.ensures)
+pub returns-in_err-rest : goal.returns-in_err-rest
+returns-in_err-rest c =
+    let p = err_from_is_err_and c.from_residual.result c.from_residual.ensures.1 in
+    let some = eqb-false _ 0 (sym c.if-is_empty.ensures) in
+    let few : length (vec_items c.loop-here.out.nodes) < 16384 = omega (arith, c.if-len-ge-MOST_NODES.false, c.len.ensures, c.loop-here.out.nodes.ok.0) in
+    rw (p.1, p.2) (stops_on _ _ (nodes_slip _ _ _ c.loop-here.invariant _ c.skip-here.ensures some few) _ c.in_err-rest.ensures)
 
 pub loop-here-smaller : goal.loop-here-smaller
 loop-here-smaller c =
-    let some = eqb-false _ 0 (sym c.if-is-empty.ensures) in
-    let few : length (vec_items c.loop-here.out.nodes) < 16384 = omega (arith, c.if-len-ge-MOST-NODES.false, c.len.ensures, c.loop-here.out.nodes.ok.0) in
-    let t = c.in-ok-rest.ensures in
-    nodes_less _ _ _ c.loop-here.invariant _ c.skip_here.ensures some few t.0 _ t.1
+    let some = eqb-false _ 0 (sym c.if-is_empty.ensures) in
+    let few : length (vec_items c.loop-here.out.nodes) < 16384 = omega (arith, c.if-len-ge-MOST_NODES.false, c.len.ensures, c.loop-here.out.nodes.ok.0) in
+    let t = c.in_ok-rest.ensures in
+    nodes_less _ _ _ c.loop-here.invariant _ c.skip-here.ensures some few t.0 _ t.1
 
 pub loop-here-preserved : goal.loop-here-preserved
 loop-here-preserved c =
-    let some = eqb-false _ 0 (sym c.if-is-empty.ensures) in
-    let few : length (vec_items c.loop-here.out.nodes) < 16384 = omega (arith, c.if-len-ge-MOST-NODES.false, c.len.ensures, c.loop-here.out.nodes.ok.0) in
-    let t = c.in-ok-rest.ensures in
-    nodes_more _ _ _ c.loop-here.invariant _ c.skip_here.ensures some few t.0 _ t.1 _ t.2
+    let some = eqb-false _ 0 (sym c.if-is_empty.ensures) in
+    let few : length (vec_items c.loop-here.out.nodes) < 16384 = omega (arith, c.if-len-ge-MOST_NODES.false, c.len.ensures, c.loop-here.out.nodes.ok.0) in
+    let t = c.in_ok-rest.ensures in
+    nodes_more _ _ _ c.loop-here.invariant _ c.skip-here.ensures some few t.0 _ t.1 _ t.2

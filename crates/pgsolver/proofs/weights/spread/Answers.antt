@@ -8,4 +8,4 @@ loop-at-preserved c =
     let p = get_or c.args.priorities.now c.in-Some.at 0 in
     let w = c.loop-at.lowest + (p % 2 + c.loop-at.lowest) % 2 in
     let low : w < 256 = omega (arith, c.if-weight-ge-WEIGHTS.false) in
-    (omega (arith, c.from-bound.ensures, (c.type-inv.priorities c.in-Some.at).fits), subst (λ m. Spread c.args.priorities.now c.mark.new.out (m + 1) (w + 1)) (sym c.from-bound.ensures) (spread_more c.args.priorities.now _ _ _ c.loop-at.invariant.1 _ t.0 t.1 t.2 p w refl refl low _ c.mark.ensures))
+    (omega (arith, c.from-bound.ensures, (c.type_inv.priorities c.in-Some.at).fits), subst (λ m. Spread c.args.priorities.now c.mark.new.out (m + 1) (w + 1)) (sym c.from-bound.ensures) (spread_more c.args.priorities.now _ _ _ c.loop-at.invariant.1 _ t.0 t.1 t.2 p w refl refl low _ c.mark.ensures))

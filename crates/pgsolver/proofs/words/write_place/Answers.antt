@@ -5,5 +5,5 @@ use Rattle.pgsolver.proofs.words.write_place.Goals as goal
 
 pub returns : goal.returns
 returns c =
-    let three = pushed_three _ _ _ _ _ _ _ c.in-ok-push.ensures.items c.in-ok-push-2.ensures.items c.in-ok-push-3.ensures.items in
-    went_from (ids_of c.args.ids.now) c.args.goals.now c.args.n _ _ (vec_items c.write-goals.new.words) c.write-goals.result three c.write-goals.ensures
+    let three = pushed_three _ _ _ _ _ _ _ c.in_ok-push.ensures.items c.in_ok-push-2.ensures.items c.in_ok-push-3.ensures.items in
+    went_from (ids_of c.args.ids.now) c.args.goals.now c.args.n _ _ (vec_items c.write_goals.new.words) c.write_goals.result three c.write_goals.ensures

@@ -16,14 +16,14 @@ PlusMinus = (a b : ℕ) → a + b - a ≡ b
 plus_less : PlusMinus
 plus_less a b = omega arith
 
-pub overflow-cast-nodes : goal.overflow-cast-nodes
-overflow-cast-nodes c = let t = c.requires.ready in omega (arith, t.1.few, ap length t.1.are, length-map t.0 (λ e. node_of e.first (length e.goes) e.left))
+pub overflow_cast-nodes : goal.overflow_cast-nodes
+overflow_cast-nodes c = let t = c.requires.ready in omega (arith, t.1.few, ap length t.1.are, length-map t.0 (λ e. node_of e.first (length e.goes) e.left))
 
 pub loop-n-init : goal.loop-n-init
-loop-n-init c es r = words_first _ _ _ _ _ _ r (c.in-ok-push.ensures.items ∙ ap (λ l. l ++ (length c.args.nodes.now ∷ [])) c.new-words.ensures.items)
+loop-n-init c es r = words_first _ _ _ _ _ _ r (c.in_ok-push.ensures.items ∙ ap (λ l. l ++ (length c.args.nodes.now ∷ [])) c.new-words.ensures.items)
 
-pub overflow-add-end : goal.overflow-add-end
-overflow-add-end c =
+pub overflow_add-end : goal.overflow_add-end
+overflow_add-end c =
     let t = c.requires.ready in
     let low = end_fits _ t.0 _ _ _ _ t.1 _ _ (c.loop-n.invariant t.0 t.1) c.loop-n-test.true none (get_or c.args.nodes.now c.loop-n.n none) refl in
     omega (arith, low)
@@ -33,24 +33,24 @@ bounds-weights-n c =
     let t = c.requires.ready in
     weight_inside _ t.0 _ _ _ _ t.1 _ _ (c.loop-n.invariant t.0 t.1) c.loop-n-test.true none (get_or c.args.nodes.now c.loop-n.n none) refl
 
-pub slice-bounds-write-place-end : goal.slice-bounds-write-place-end
-slice-bounds-write-place-end c =
+pub slice_bounds-write_place-end : goal.slice_bounds-write_place-end
+slice_bounds-write_place-end c =
     let t = c.requires.ready in
     count_inside _ t.0 _ _ _ _ t.1 _ _ (c.loop-n.invariant t.0 t.1) c.loop-n-test.true none (get_or c.args.nodes.now c.loop-n.n none) refl
 
-pub write-place-requires : goal.write-place-requires
-write-place-requires c =
+pub write_place-requires : goal.write_place-requires
+write_place-requires c =
     let t = c.requires.ready in
     record { sound = c.requires.sound; few = count_few _ t.0 _ _ _ _ t.1 _ _ (c.loop-n.invariant t.0 t.1) c.loop-n-test.true none (get_or c.args.nodes.now c.loop-n.n none) refl }
 
-pub returns-in-err-write-place : goal.returns-in-err-write-place
-returns-in-err-write-place c es r =
-    let p = err_from_is_err_and c.from-residual-in-err-write-place.result c.from-residual-in-err-write-place.ensures.1 in
-    rw (p.1, p.2) (words_wrong _ es _ _ _ _ r _ _ (c.loop-n.invariant es r) c.loop-n-test.true none (get_or c.args.nodes.now c.loop-n.n none) refl _ (ap (λ m. take m (drop c.loop-n.at c.args.goals.now)) (plus_less c.loop-n.at (get_or c.args.nodes.now c.loop-n.n none).count)) (get_or c.args.weights.now c.loop-n.n 0) refl [] [] _ c.in-err-write-place.ensures)
+pub returns-in_err-write_place : goal.returns-in_err-write_place
+returns-in_err-write_place c es r =
+    let p = err_from_is_err_and c.from_residual-in_err-write_place.result c.from_residual-in_err-write_place.ensures.1 in
+    rw (p.1, p.2) (words_wrong _ es _ _ _ _ r _ _ (c.loop-n.invariant es r) c.loop-n-test.true none (get_or c.args.nodes.now c.loop-n.n none) refl _ (ap (λ m. take m (drop c.loop-n.at c.args.goals.now)) (plus_less c.loop-n.at (get_or c.args.nodes.now c.loop-n.n none).count)) (get_or c.args.weights.now c.loop-n.n 0) refl [] [] _ c.in_err-write_place.ensures)
 
 pub loop-n-preserved : goal.loop-n-preserved
 loop-n-preserved c es r =
-    words_more _ es _ _ _ _ r _ _ (c.loop-n.invariant es r) c.loop-n-test.true none (get_or c.args.nodes.now c.loop-n.n none) refl _ (ap (λ m. take m (drop c.loop-n.at c.args.goals.now)) (plus_less c.loop-n.at (get_or c.args.nodes.now c.loop-n.n none).count)) (get_or c.args.weights.now c.loop-n.n 0) refl _ c.in-ok-write-place.ensures
+    words_more _ es _ _ _ _ r _ _ (c.loop-n.invariant es r) c.loop-n-test.true none (get_or c.args.nodes.now c.loop-n.n none) refl _ (ap (λ m. take m (drop c.loop-n.at c.args.goals.now)) (plus_less c.loop-n.at (get_or c.args.nodes.now c.loop-n.n none).count)) (get_or c.args.weights.now c.loop-n.n 0) refl _ c.in_ok-write_place.ensures
 
 pub returns : goal.returns
 returns c es r = words_all _ _ _ _ _ _ r _ _ (c.loop-n.invariant es r) c.loop-n-test.false

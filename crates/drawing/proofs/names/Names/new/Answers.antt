@@ -5,4 +5,4 @@ use Rattle.drawing.proofs.names.Names.new.Goals as goal
 pub returns : goal.returns
 returns c =
     let none = ap (λ l. map string_bytes l) c.new-names.ensures.items in
-    (chained_none _ _ _ none (c.in-ok-heads.ensures.items-if-clones-equal (λ y e. e)) c.new-next.ensures.items, none)
+    (chained_none _ _ _ none (c.in_ok-heads.ensures.items_if_clones_equal (λ y e. e)) c.new-next.ensures.items, none)

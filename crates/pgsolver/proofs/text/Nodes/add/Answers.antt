@@ -5,8 +5,8 @@ use Rattle.pgsolver.proofs.text.Nodes.add.Goals as goal
 
 pub returns : goal.returns
 returns c = record {
-  nodes = c.in-ok-push.ensures.items;
-  priorities = c.in-ok-push-2.ensures.items;
+  nodes = c.in_ok-push.ensures.items;
+  priorities = c.in_ok-push-2.ensures.items;
   goals = refl;
-  names = ap (λ l. map vec_items l) c.in-ok-push-3.ensures.items ∙ map_push vec_items (vec_items c.args.self.now.names) _ ∙ ap (λ x. texts c.args.self.now ++ (x ∷ [])) c.in-ok-from-slice.ensures.items;
+  names = ap (λ l. map vec_items l) c.in_ok-push-3.ensures.items ∙ map_push vec_items (vec_items c.args.self.now.names) _ ∙ ap (λ x. texts c.args.self.now ++ (x ∷ [])) c.in_ok-from_slice.ensures.items;
 }

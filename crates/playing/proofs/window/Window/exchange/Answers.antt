@@ -12,7 +12,7 @@ exchange-requires c =
     let ring : List ℕ = vec_items c.args.self.now.ring in
     let at : c.args.self.now.oldest < length ring = omega (arith, c.requires, c.args.self.now.within) in
     let old : c.index-old.result.now ≡ get_or ring c.args.self.now.oldest 0 = get_or_read ring c.args.self.now.oldest c.index-old.result.now at c.index-old.ensures 0 in
-    let lent : c.as-mut-slice.result.now ≡ vec_items c.args.self.now.counts = c.as-mut-slice.ensures.value in
+    let lent : c.as_mut_slice.result.now ≡ vec_items c.args.self.now.counts = c.as_mut_slice.ensures.value in
     let counted = c.args.self.now.tells c.index-old.result.now (omega arith) in
     record {
       kinds = ap length lent ∙ c.args.self.now.kinds;
@@ -20,8 +20,8 @@ exchange-requires c =
       fits = omega (arith, ap (λ l. get_or l c.args.weight 0) lent, c.args.self.now.tells c.args.weight (omega arith), times_le c.args.weight ring, c.args.self.now.long);
     }
 
-pub invariant-of-self : goal.invariant-of-self
-invariant-of-self c =
+pub invariant_of-self : goal.invariant_of-self
+invariant_of-self c =
     let w : ℕ = c.args.weight in
     let small : w < 256 = omega arith in
     let ring : List ℕ = vec_items c.args.self.now.ring in
@@ -31,7 +31,7 @@ invariant-of-self c =
     let old : c.index-old.result.now ≡ get_or ring i 0 = get_or_read ring i c.index-old.result.now at c.index-old.ensures 0 in
     let light : get_or ring i 0 < 256 = omega arith in
     let counted : c.exchange.new.counts ≡ more w (less (get_or ring i 0) counts) =
-    c.exchange.ensures ∙ ap (λ l. more w (less c.index-old.result.now l)) c.as-mut-slice.ensures.value ∙ ap (λ k. more w (less k counts)) old in
+    c.exchange.ensures ∙ ap (λ l. more w (less c.index-old.result.now l)) c.as_mut_slice.ensures.value ∙ ap (λ k. more w (less k counts)) old in
     let kinds : length c.exchange.new.counts ≡ 256 =
     ap length counted ∙ length-set (less (get_or ring i 0) counts) w (get_or (less (get_or ring i 0) counts) w 0 + 1)
     ∙ length-set counts (get_or ring i 0) (get_or counts (get_or ring i 0) 0 - 1) ∙ c.args.self.now.kinds in

@@ -6,4 +6,4 @@ use Rattle.playing.proofs.window.Window.heaviest.Goals as goal
 pub returns : goal.returns
 returns c =
     heaviest_held (vec_items c.args.self.now.ring) (vec_items c.args.self.now.counts) c.args.self.now.oldest
-    c.args.self.now.kinds c.args.self.now.tells c.args.self.now.light c.greatest.result (subst (λ l. GreatestIs l c.greatest.result) c.as-slice.ensures.value c.greatest.ensures)
+    c.args.self.now.kinds c.args.self.now.tells c.args.self.now.light c.greatest.result (subst (λ l. GreatestIs l c.greatest.result) c.as_slice.ensures.value c.greatest.ensures)

@@ -3,13 +3,13 @@ use Rattle.endless.specs.Graph.{times}
 use Rattle.playing.proofs.Rings.{getD_replicate_zero}
 use Rattle.playing.proofs.window.Window.new.Goals as goal
 
-pub invariant-of-result : goal.invariant-of-result
-invariant-of-result c =
-    let ring : vec_items c.in-ok-ring.ring ≡ [] = c.in-ok-ring.ensures.items in
-    let none : length (vec_items c.in-ok-ring.ring) ≡ 0 = ap length ring in
-    let room : 1000 ≤ vec_capacity c.in-ok-ring.ring = c.in-ok-ring.ensures.capacity in
-    let counts : vec_items c.in-ok-counts.counts ≡ replicate 256 0 = c.in-ok-counts.ensures.items-if-clones-equal (λ y e. e) in
-    let many : length (vec_items c.in-ok-counts.counts) ≡ 256 = sym c.in-ok-counts.counts.ok.0 ∙ c.in-ok-counts.ensures.len in (
+pub invariant_of-result : goal.invariant_of-result
+invariant_of-result c =
+    let ring : vec_items c.in_ok-ring.ring ≡ [] = c.in_ok-ring.ensures.items in
+    let none : length (vec_items c.in_ok-ring.ring) ≡ 0 = ap length ring in
+    let room : 1000 ≤ vec_capacity c.in_ok-ring.ring = c.in_ok-ring.ensures.capacity in
+    let counts : vec_items c.in_ok-counts.counts ≡ replicate 256 0 = c.in_ok-counts.ensures.items_if_clones_equal (λ y e. e) in
+    let many : length (vec_items c.in_ok-counts.counts) ≡ 256 = sym c.in_ok-counts.counts.ok.0 ∙ c.in_ok-counts.ensures.len in (
       room,
       (
         omega arith,
