@@ -108,9 +108,9 @@ means n bs e is = subst (Means n) (sym e) (at (plainly n) refl)
         alone n n false (plain_back n is (eqb-true (until stops n) (length n) r.0) (not-true (dash n) r.1))
     at false q = alone (34 ∷ (escaped n ++ (34 ∷ []))) n true (quoted_back n is)
 
-pub plainly_is : (n : List ℕ) → (length n ≡ 0 → ⊥) → until stops n ≡ length n → (r x : Bool) → Decides x (n ≡ 45 ∷ []) → r ≡ not x → r ≡ plainly n
-plainly_is n some all r x d e =
-    e ∙ ap not (same_from_decides x (dash n) d (bytes_eq-Decides n (45 ∷ [])))
+pub plainly_is : (n : List ℕ) → (length n ≡ 0 → ⊥) → until stops n ≡ length n → (r : Bool) → r ≡ not (dash n) → r ≡ plainly n
+plainly_is n some all r e =
+    e
     ∙ sym (ap (λ t. not t && (eqb (until stops n) (length n) && not (dash n))) (ne_eqb (length n) 0 some) ∙ ap (λ t. t && not (dash n)) (eq-eqb (until stops n) (length n) all))
 
 pub made_pushed : {E : Type 0} (r : Result (Unit {0}) E) (old new add whole : List ℕ) → new ≡ cond (is_ok r) (old ++ add) old → old ++ add ≡ whole → IfOk r (λ _. new ≡ whole)

@@ -92,7 +92,7 @@ impl Trail {
     /// How many weights are left when so many moves were made, if these are
     /// all or at least 1,000.
     fn left_at(&self, made: u64) -> Option<usize>
-        ensures { LeftAt (deque_len self.now.weights) self.now.made IfOk result }
+        ensures { LeftAt (deque_len self.now.weights) self.now.made made result }
     {
         let kept = self.weights.len() as u64;
         if made > self.made {

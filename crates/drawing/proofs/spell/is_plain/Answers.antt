@@ -5,4 +5,4 @@ use Rattle.drawing.proofs.RoundTrip.{plainly_is}
 use Rattle.drawing.proofs.spell.is_plain.Goals as goal
 
 pub returns : goal.returns
-returns c = plainly_is c.args.name.now (eqb-false _ 0 (sym c.if-is_empty.ensures)) (ap (until stops) (sym c.as_bytes.ensures.value) ∙ sym c.word_len.ensures ∙ c.if-word_len-name.false) _ c.ne.ensures.0 c.ne.ensures.1 c.ne.ensures.2
+returns c = plainly_is c.args.name.now (eqb-false _ 0 (sym c.if-is_empty.ensures)) (ap (until stops) (sym c.as_bytes.ensures.value) ∙ sym c.word_len.ensures ∙ c.if-word_len-name.false) _ c.ne.ensures

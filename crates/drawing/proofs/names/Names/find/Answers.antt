@@ -1,6 +1,7 @@
 use Rattle.std.proofs.Common.{◌≡◌, ℕ, ◌+◌, ◌-◌, ◌<◌, ◌≤◌, [], map, length, get_or, vec_items, vec_len, string_bytes, sym, refl, ap, ◌∙◌, arith, rules}
 use Rattle.std.proofs.lemmas.List.{length-map, get_or_read}
 use Rattle.std.proofs.lemmas.Bool.{false≢true}
+use Rattle.std.proofs.lemmas.Slice.Eq.{bytes_eq-Decides}
 use Rattle.drawing.specs.Table.{hash, texts}
 use Rattle.drawing.proofs.Chains.{leads_first, leads_next, leads_none, text_at}
 use Rattle.drawing.proofs.names.Names.find.Goals as goal
@@ -17,7 +18,7 @@ pub returns-then-eq : goal.returns-then-eq
 returns-then-eq c =
     let most : c.loop-at.at - 1 < length (vec_items c.args.self.now.names) = omega (arith, c.loop-at-test.true, c.loop-at.invariant.most, length-map (vec_items c.args.self.now.names) string_bytes) in (
       omega (arith, c.loop-at-test.true, c.loop-at.invariant.most),
-      text_at string_bytes (vec_items c.args.self.now.names) _ c.index-in-loop-at.result.now most c.index-in-loop-at.ensures ∙ sym c.as_str.ensures.value ∙ c.if-eq.ensures.0 refl,
+      text_at string_bytes (vec_items c.args.self.now.names) _ c.index-in-loop-at.result.now most c.index-in-loop-at.ensures ∙ sym c.as_str.ensures.value ∙ (bytes_eq-Decides _ _).0 (sym c.if-eq.ensures),
     )
 
 pub loop-at-smaller : goal.loop-at-smaller
@@ -33,7 +34,7 @@ loop-at-preserved c =
     let within : c.loop-at.at - 1 < length (vec_items c.args.self.now.next) = omega (arith, most, c.requires.links) in
     let reads = text_at string_bytes (vec_items c.args.self.now.names) _ c.index-in-loop-at.result.now inside c.index-in-loop-at.ensures in
     leads_next _ (vec_items c.args.self.now.heads) _ _ _ (c.loop-at.at - 1) _ c.requires c.loop-at.invariant (omega (arith, c.loop-at-test.true))
-    (λ e. false≢true (c.if-eq.ensures.1 (c.as_str.ensures.value ∙ sym reads ∙ e)))
+    (λ e. false≢true (c.if-eq.ensures ∙ (bytes_eq-Decides _ _).1 (c.as_str.ensures.value ∙ sym reads ∙ e)))
     (get_or_read _ _ _ within c.index-in-loop-at-2.ensures 0)
 
 pub returns : goal.returns

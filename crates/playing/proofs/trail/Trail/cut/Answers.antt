@@ -7,4 +7,8 @@ invariant_of-self c =
     let few : deque_len c.truncate.new.self ≤ 65536 = omega (arith, c.truncate.ensures.len, c.args.self.now.few) in
     let first = c.push_all.ensures [] c.in_ok-window.ensures in
     let both = c.push_all-2.ensures c.as_slices.result.0.now first in
-    (few, (subst (Holds (vec_items c.push_all-2.new.self.ring) c.push_all-2.new.self.oldest) c.as_slices.ensures.items both, (c.args.self.now.limited, tt)))
+    record {
+      few = few;
+      holds = subst (Holds (vec_items c.push_all-2.new.self.ring) c.push_all-2.new.self.oldest) c.as_slices.ensures.items both;
+      limited = c.args.self.now.limited;
+    }

@@ -28,26 +28,17 @@ invariant_of-self c =
     let refills : vec_items (with_items c.args.self.now.counts c.add.new.counts) ≡ c.add.new.counts =
     with_items_is c.args.self.now.counts c.add.new.counts (kinds ∙ sym c.args.self.now.kinds ∙ sym c.args.self.now.counts.ok.0) in
     let room : 1000 ≤ vec_capacity c.push_reserved.new.self = omega (arith, c.push_reserved.ensures.capacity, c.args.self.now.roomy) in
-    let long : length (vec_items c.push_reserved.new.self) ≡ length ring + 1 = ap length pushed ∙ length-append ring (w ∷ []) in (
-      room,
-      (
-        omega arith,
-        (
-          c.args.self.now.within,
-          (
-            λ h. c.args.self.now.growing (omega arith),
-            (
-              ap length refills ∙ kinds,
-              (
-                subst (λ l. Tells l (vec_items c.push_reserved.new.self)) (sym (refills ∙ counted))
-                    (subst (Tells (set counts w (get_or counts w 0 + 1))) (sym pushed) (tells_push ring w small counts c.args.self.now.kinds c.args.self.now.tells)),
-                (subst Light (sym pushed) (light_push ring w small c.args.self.now.light), tt),
-              ),
-            ),
-          ),
-        ),
-      ),
-    )
+    let long : length (vec_items c.push_reserved.new.self) ≡ length ring + 1 = ap length pushed ∙ length-append ring (w ∷ []) in
+    record {
+      roomy = room;
+      long = omega arith;
+      within = c.args.self.now.within;
+      growing = λ h. c.args.self.now.growing (omega arith);
+      kinds = ap length refills ∙ kinds;
+      tells = subst (λ l. Tells l (vec_items c.push_reserved.new.self)) (sym (refills ∙ counted))
+          (subst (Tells (set counts w (get_or counts w 0 + 1))) (sym pushed) (tells_push ring w small counts c.args.self.now.kinds c.args.self.now.tells));
+      light = subst Light (sym pushed) (light_push ring w small c.args.self.now.light);
+    }
 
 pub returns : goal.returns
 returns c all holds =

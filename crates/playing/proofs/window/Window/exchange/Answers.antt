@@ -37,25 +37,16 @@ invariant_of-self c =
     ∙ length-set counts (get_or ring i 0) (get_or counts (get_or ring i 0) 0 - 1) ∙ c.args.self.now.kinds in
     let refills : vec_items (with_items c.args.self.now.counts c.exchange.new.counts) ≡ c.exchange.new.counts =
     with_items_is c.args.self.now.counts c.exchange.new.counts (kinds ∙ sym c.args.self.now.kinds ∙ sym c.args.self.now.counts.ok.0) in
-    let long : length (set ring i w) ≡ length ring = length-set ring i w in (
-      c.args.self.now.roomy,
-      (
-        omega (arith, c.args.self.now.long),
-        (
-          c.behind-self.ensures.within,
-          (
-            λ h. absurd (omega (arith, c.requires)),
-            (
-              ap length refills ∙ kinds,
-              (
-                subst (λ l. Tells l (set ring i w)) (sym (refills ∙ counted)) (tells_set ring i w small at counts c.args.self.now.kinds light c.args.self.now.tells),
-                (light_set ring i w small at c.args.self.now.light, tt),
-              ),
-            ),
-          ),
-        ),
-      ),
-    )
+    let long : length (set ring i w) ≡ length ring = length-set ring i w in
+    record {
+      roomy = c.args.self.now.roomy;
+      long = omega (arith, c.args.self.now.long);
+      within = c.behind-self.ensures.within;
+      growing = λ h. absurd (omega (arith, c.requires));
+      kinds = ap length refills ∙ kinds;
+      tells = subst (λ l. Tells l (set ring i w)) (sym (refills ∙ counted)) (tells_set ring i w small at counts c.args.self.now.kinds light c.args.self.now.tells);
+      light = light_set ring i w small at c.args.self.now.light;
+    }
 
 pub returns : goal.returns
 returns c =
