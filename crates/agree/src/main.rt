@@ -9,14 +9,17 @@ use allplans::game::Game;
 use allplans::random::Random;
 use report::{Error, Report};
 use std::alloc::Global;
+use std::process::ExitCode;
 use trial::By;
 
-fn main(rt: HostRuntime) -> Result<(), Error> {
-    let done = run(&rt);
-    if let Err(error) = &done {
-        let _ = eprintln!(rt; "agree: {error}");
+fn main(rt: HostRuntime) -> ExitCode {
+    match run(&rt) {
+        Ok(()) => ExitCode::SUCCESS,
+        Err(error) => {
+            let _ = eprintln!(rt; "agree: {error}");
+            ExitCode::FAILURE
+        }
     }
-    done
 }
 
 fn run(rt: &HostRuntime) -> Result<(), Error> {

@@ -11,13 +11,16 @@ use drawing::Drawing;
 use fault::Fault;
 use std::env;
 use std::io::{BufWriter, Write};
+use std::process::ExitCode;
 
-fn main(rt: HostRuntime) -> Result<(), Fault> {
-    let done = run(&rt);
-    if let Err(fault) = &done {
-        let _ = eprintln!(rt; "endless_solve: {fault}");
+fn main(rt: HostRuntime) -> ExitCode {
+    match run(&rt) {
+        Ok(()) => ExitCode::SUCCESS,
+        Err(fault) => {
+            let _ = eprintln!(rt; "endless_solve: {fault}");
+            ExitCode::FAILURE
+        }
     }
-    done
 }
 
 fn run(rt: &HostRuntime) -> Result<(), Fault> {

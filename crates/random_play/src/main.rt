@@ -8,14 +8,17 @@ mod report;
 
 use fault::Fault;
 use std::alloc::AllocError;
+use std::process::ExitCode;
 use std::{env, io};
 
-fn main(rt: HostRuntime) -> Result<(), Fault> {
-    let done = run(&rt);
-    if let Err(fault) = &done {
-        let _ = eprintln!(rt; "random_play: {fault}");
+fn main(rt: HostRuntime) -> ExitCode {
+    match run(&rt) {
+        Ok(()) => ExitCode::SUCCESS,
+        Err(fault) => {
+            let _ = eprintln!(rt; "random_play: {fault}");
+            ExitCode::FAILURE
+        }
     }
-    done
 }
 
 /// Two arguments: the file of a drawing, and how many moves are made.
