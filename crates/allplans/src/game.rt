@@ -62,13 +62,30 @@ fn all_below(moves: &[u32], places: usize) -> bool
     true
 }
 
-/// A game.
+/// A game, or one that is being made.
 #[derive(Drop)]
 pub struct Game {
     pub places: Vec<Place>,
 }
 
 impl Game {
+    /// No places yet.
+    pub fn new(heap: Global) -> Game {
+        Game {
+            places: Vec::new(heap),
+        }
+    }
+
+    /// One more place.
+    pub fn add(&mut self, whose: u32, weight: u32, moves: Vec<u32>) -> Result<(), Fault> {
+        self.places.push(Place {
+            whose,
+            weight,
+            moves,
+        })?;
+        Ok(())
+    }
+
     /// How many places there are.
     pub fn len(&self) -> usize
         ensures { result ≡ vec_len self.now.places }

@@ -3,9 +3,6 @@ use crate::fault::Fault;
 use crate::game::Game;
 use std::alloc::Global;
 
-/// The most places of a game whose plans are tried.
-const MOST_PLACES: usize = 32;
-
 /// The most plans of a side that are tried: all, where a game has eight
 /// places with three moves each.
 const MOST_PLANS: u32 = 6561;
@@ -23,40 +20,38 @@ pub enum Winner {
 
 /// The winner of each place of a game.
 pub fn winners(heap: Global, game: &Game) -> Result<Vec<Winner>, Fault> {
-    let even = won_by(game, 0)?;
-    let odd = won_by(game, 1)?;
+    let even = won_by(heap, game, 0)?;
+    let odd = won_by(heap, game, 1)?;
     let mut winners = Vec::new(heap);
-    for place in 0..game.len() {
-        winners.push(decide(even.has(place), odd.has(place)))?;
+    for (even, odd) in even.iter().zip(odd.iter()) {
+        winners.push(match (*even, *odd) {
+            (true, false) => Winner::Side(0),
+            (false, true) => Winner::Side(1),
+            (true, true) => Winner::Both,
+            (false, false) => Winner::Neither,
+        })?;
     }
     Ok(winners)
 }
 
-/// The winner of a place from which each side wins by some plan, or does not.
-fn decide(even: bool, odd: bool) -> Winner {
-    match (even, odd) {
-        (true, false) => Winner::Side(0),
-        (false, true) => Winner::Side(1),
-        (true, true) => Winner::Both,
-        (false, false) => Winner::Neither,
-    }
-}
-
 /// The places from which `side` wins by some plan.
-fn won_by(game: &Game, side: u32) -> Result<Set, Fault> {
-    if game.len() > MOST_PLACES {
-        return Err(Fault::ManyPlans);
-    }
-    try_plans(game, side, &mut [0; MOST_PLACES])
-}
-
-/// The same, where the first plan to try is given.
-fn try_plans(game: &Game, side: u32, choice: &mut [usize]) -> Result<Set, Fault> {
-    let mut won = Set::new();
+fn won_by(heap: Global, game: &Game, side: u32) -> Result<Vec<bool>, Fault> {
+    let places = game.len();
+    let mut won = vec![in heap; false; places]?;
+    let mut choice = vec![in heap; 0usize; places]?;
     for _ in 0..MOST_PLANS {
-        let plan = Plan { game, side, choice };
-        won = won.union(plan.won());
-        if !next_plan(game, side, choice) {
+        let plan = Plan {
+            game,
+            side,
+            choice: choice.as_slice(),
+        };
+        let lost = plan.lost(heap)?;
+        for (won, lost) in won.iter_mut().zip(lost.iter()) {
+            if !*lost {
+                *won = true;
+            }
+        }
+        if !next_plan(game, side, choice.as_mut_slice()) {
             return Ok(won);
         }
     }
@@ -79,41 +74,6 @@ fn next_plan(game: &Game, side: u32, choice: &mut [usize]) -> bool {
     false
 }
 
-/// Some of the places of a small game, as bits.
-#[derive(Clone, Copy)]
-struct Set(u32);
-
-impl Set {
-    /// No places.
-    fn new() -> Set {
-        Set(0)
-    }
-
-    fn has(self, place: usize) -> bool {
-        self.0 & bit(place) != 0
-    }
-
-    /// These places and one more.
-    fn with(self, place: usize) -> Set {
-        Set(self.0 | bit(place))
-    }
-
-    /// The places of both sets.
-    fn union(self, other: Set) -> Set {
-        Set(self.0 | other.0)
-    }
-
-    /// Whether a place is in both sets.
-    fn meets(self, other: Set) -> bool {
-        self.0 & other.0 != 0
-    }
-}
-
-/// The bit of a place.
-fn bit(place: usize) -> u32 {
-    if place < MOST_PLACES { 1 << place } else { 0 }
-}
-
 /// A plan of one side; the other may go anywhere.
 #[derive(Clone, Copy)]
 struct Plan<'a> {
@@ -132,81 +92,63 @@ impl<'a> Plan<'a> {
         if here.whose != self.side {
             return moves;
         }
-        let chosen = self.chosen(place);
-        if chosen < moves.len() {
-            &moves[chosen..chosen + 1]
-        } else {
-            &[]
+        match self.choice.get(place) {
+            Some(chosen) if *chosen < moves.len() => &moves[*chosen..*chosen + 1],
+            _ => &[],
         }
     }
 
-    /// Which of the moves of this place is taken.
-    fn chosen(self, place: usize) -> usize {
-        if place < self.choice.len() {
-            self.choice[place]
-        } else {
-            0
-        }
-    }
-
-    /// The places from which no play by this plan can come to a round that
-    /// the other side wins.
-    fn won(self) -> Set {
-        let wrong = self.wrong();
-        let mut won = Set::new();
-        for place in 0..self.game.len() {
-            let passed = self.reached(place, u32::MAX).with(place);
-            if !passed.meets(wrong) {
-                won = won.with(place);
-            }
-        }
-        won
-    }
-
-    /// The places of the other side's kind of weight to which a play by this
-    /// plan can come back, over places that are no heavier.
-    fn wrong(self) -> Set {
-        let mut wrong = Set::new();
+    /// The places from which a play by this plan can come to a round that the
+    /// other side wins.
+    fn lost(self, heap: Global) -> Result<Vec<bool>, Fault> {
+        let mut lost = Vec::new(heap);
+        let mut wrong = Vec::new(heap);
         for (place, here) in self.game.places.iter().enumerate() {
-            if here.weight % 2 != self.side && self.reached(place, here.weight).has(place) {
-                wrong = wrong.with(place);
-            }
+            let comes_back = here.weight % 2 != self.side
+                && at(self.reached(heap, place, here.weight)?.as_slice(), place);
+            wrong.push(comes_back)?;
         }
-        wrong
+        for place in 0..self.game.len() {
+            let reached = self.reached(heap, place, u32::MAX)?;
+            lost.push(at(wrong.as_slice(), place) || meet(wrong.as_slice(), reached.as_slice()))?;
+        }
+        Ok(lost)
     }
 
     /// The places to which a play by this plan can come from `start`, by one
     /// move or more, over places of weight at most `heaviest`.
-    fn reached(self, start: usize, heaviest: u32) -> Set {
-        let mut reached = self.next(start, heaviest);
-        for _ in 0..self.game.len() {
-            reached = reached.union(self.next_of(reached, heaviest));
-        }
-        reached
-    }
-
-    /// The places to which a play by this plan can come from these by one
-    /// move, those of weight at most `heaviest`.
-    fn next_of(self, places: Set, heaviest: u32) -> Set {
-        let mut next = Set::new();
-        for place in 0..self.game.len() {
-            if places.has(place) {
-                next = next.union(self.next(place, heaviest));
+    fn reached(self, heap: Global, start: usize, heaviest: u32) -> Result<Vec<bool>, Fault> {
+        let places = self.game.len();
+        let mut reached = vec![in heap; false; places]?;
+        self.go_on(start, heaviest, reached.as_mut_slice());
+        for _ in 0..places {
+            let mut more = false;
+            for place in 0..places {
+                if at(reached.as_slice(), place)
+                    && self.go_on(place, heaviest, reached.as_mut_slice())
+                {
+                    more = true;
+                }
+            }
+            if !more {
+                break;
             }
         }
-        next
+        Ok(reached)
     }
 
-    /// The same from one place.
-    fn next(self, place: usize, heaviest: u32) -> Set {
-        let mut next = Set::new();
+    /// Marks where a play can go from `place` by one move, over places of
+    /// weight at most `heaviest`, and says whether one was new.
+    fn go_on(self, place: usize, heaviest: u32, reached: &mut [bool]) -> bool {
+        let mut more = false;
         for to in self.moves(place) {
             let to = *to as usize;
-            if self.weighs_at_most(to, heaviest) {
-                next = next.with(to);
+            if !at(reached, to) && self.weighs_at_most(to, heaviest) {
+                mark(reached, to);
+                more = true;
             }
         }
-        next
+        more
     }
 
     fn weighs_at_most(self, place: usize, heaviest: u32) -> bool {
@@ -214,5 +156,25 @@ impl<'a> Plan<'a> {
             Some(place) => place.weight <= heaviest,
             None => false,
         }
+    }
+}
+
+/// Whether a place is in both sets.
+fn meet(a: &[bool], b: &[bool]) -> bool {
+    for (a, b) in a.iter().zip(b.iter()) {
+        if *a && *b {
+            return true;
+        }
+    }
+    false
+}
+
+fn at(set: &[bool], place: usize) -> bool {
+    set.get(place).copied().unwrap_or(false)
+}
+
+fn mark(set: &mut [bool], place: usize) {
+    if place < set.len() {
+        set[place] = true;
     }
 }

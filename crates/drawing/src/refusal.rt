@@ -73,19 +73,17 @@ impl fmt::Display for Fault {
             Fault::Side => f.write_str(
                 "the side is neither 0 nor 1; write NAME SIDE WEIGHT: NAME NAME ..",
             ),
-            Fault::Weight => f.write_str(
-                "the weight is not a number from 0 to 255; write NAME SIDE WEIGHT: NAME NAME ..",
-            ),
+            Fault::Weight => f.write_str("the weight is not a number below 256"),
             Fault::NoMoves => f.write_str(
                 "the place has no moves; name at least one place after the colon",
             ),
-            Fault::LongName => f.write_str("a name is longer than 64 bytes; choose a shorter one"),
-            Fault::EmptyName => f.write_str("a name is empty; write 1 to 64 bytes"),
+            Fault::LongName => f.write_str("a name is longer than 64 bytes"),
+            Fault::EmptyName => f.write_str("a name is empty"),
             Fault::Dash => f.write_str("a bare - is not a name; write \"-\""),
             Fault::Quote => f.write_str(
                 "a quote or a backslash stands wrong; write \"NAME\", and in it \\\" and \\\\",
             ),
-            Fault::Control => f.write_str("a control character stands in a name; leave it out"),
+            Fault::Control => f.write_str("a control character stands in a name"),
         }
     }
 }
@@ -116,17 +114,12 @@ impl fmt::Display for Refusal {
                 show(name, f)?;
                 f.write_str("; a move names a place that has a line of its own")
             }
-            Refusal::TooManyPlaces { line } => write!(
-                f,
-                "line {line}: a drawing has at most 16384 places, and this is one more; leave some out"
-            ),
+            Refusal::TooManyPlaces { line } => write!(f, "line {line}: more than 16384 places"),
             Refusal::TooManyMoves { line } => write!(
                 f,
-                "line {line}: a drawing has at most 64000 moves, and with this place there are more; leave some out"
+                "line {line}: more than 64000 moves in all"
             ),
-            Refusal::TooLong => f.write_str(
-                "a drawing has at most 1572864 bytes, and this is longer; use shorter names or fewer comments",
-            ),
+            Refusal::TooLong => f.write_str("the drawing is longer than 1572864 bytes"),
             Refusal::NoPlaces => f.write_str(
                 "the drawing has no places; write a line NAME SIDE WEIGHT: NAME NAME .. for each",
             ),

@@ -5,11 +5,12 @@ use Rattle.std.proofs.lemmas.Bool.{cases_eq, cases_lt, both_ways}
 use Rattle.endless.specs.Games.{Game, weight}
 use Rattle.endless.specs.Says.{side, goes}
 use Rattle.endless.specs.Sets.{Set, In, Out, Within, having}
+use Rattle.endless.specs.Subgames.{Subgame}
 use Rattle.endless.specs.Bits.{members, size, Removed, Least, NoneFrom}
 use Rattle.endless.specs.View.{Shows}
 use Rattle.endless.specs.declared.graph.Places.{Places}
 use Rattle.endless.specs.Pulling.{Passed, Unchanged, Starts}
-use Rattle.endless.specs.Levels.{HeaviestIn, Gathered, Stays, Given, Taken}
+use Rattle.endless.specs.Levels.{HeaviestIn, Gathered, GatheredIn, Stays, Given, Taken}
 use Rattle.endless.proofs.Tests.{T_true, true_T}
 use Rattle.endless.proofs.Sets.{in_or_out, having_in, having_within, having_is}
 use Rattle.endless.proofs.Reading.{places_are}
@@ -210,7 +211,7 @@ module _ {v : Places} {w h : ℕ} {own part out left queue out' : List ℕ} {fro
         stays g s n l y (inl e) = subst (λ (j : ℕ). Stays g (members own) j (goes out'' j)) (sym e) (given_stays room t.given g s (inside g s))
         stays g s n l y (inr d) = subst (Stays g (members own) n) (sym (unchanged_goes out' out'' n (same n d))) (so_far.stays g s n (earlier g s n (omega arith) y) y)
 
-  pub giving_all : NoneFrom (members left) from → (g : Game) → Shows v g → Gathered g (members part) (members own) w h left queue out' count
+  pub giving_all : NoneFrom (members left) from → (g : Game) → Shows v g → GatheredIn g (members part) (members own) w h left queue out' count
   giving_all none g s = record {
     starts = starts;
     labelled = λ n y. so_far.labelled g s n (below n y) y;
@@ -222,3 +223,11 @@ module _ {v : Places} {w h : ℕ} {own part out left queue out' : List ℕ} {fro
 
       below : (n : ℕ) → In (having (members part) (weight g) h) n → n < from
       below n y = ((so_far.gathers g s).covers n (having_within (members part) (weight g) h n y) (starts.apart n y)).0
+
+-- gathered of all of a set, each has a move into it where it is a subgame
+pub gathered_whole : {g : Game} {U : Set} {w h : ℕ} {left queue out : List ℕ} {count : ℕ} → GatheredIn g U U w h left queue out count → Gathered g U w h left queue out count
+gathered_whole {U = U} {h = h} ga = record {
+  starts = ga.starts;
+  labelled = ga.labelled;
+  moves = λ sub n y. let t = sub.goes_on n (having_within U _ h n y) in ga.stays n y t.0 t.1 t.2;
+}

@@ -10,23 +10,24 @@ use Rattle.endless.specs.Weights.{weighing, occurs}
 use Rattle.endless.specs.View.{Graphs}
 use Rattle.endless.specs.declared.graph.Graph.{Graph}
 use Rattle.endless.specs.Pulling.{Unchanged, Moved, Sized, Starts, Attracts}
-use Rattle.endless.specs.Levels.{HeaviestIn, Gathered, Brought, Peeled, Peels, Reduces, levels, Room}
+use Rattle.endless.specs.Levels.{HeaviestIn, Gathered, GatheredIn, Brought, Peeled, Peels, Reduces, levels, Room}
 use Rattle.endless.proofs.Tests.{T_true, true_T}
 use Rattle.endless.proofs.Sets.{in_or_out, minus_out, having_in, having_within}
 use Rattle.endless.proofs.CountLaws.{count_more_yes, count_add, some_count}
 use Rattle.endless.proofs.SetLaws.{size_none, size_some, size_sub}
 use Rattle.endless.proofs.Steps.{rest_subgame, subgame_as, closed_subgame}
 use Rattle.endless.proofs.Working.{unchanged_goes, same_side}
-use Rattle.endless.proofs.Turns.{minus_twice, twice_minus, reduces_none, reduces_then, reduces_all, turn_reduces}
+use Rattle.endless.proofs.Turns.{minus_twice, twice_minus, peeled_whole, reduces_none, reduces_then, reduces_all, turn_reduces}
 
 -- targets are not touched by going through the queue
 kept_targets : (U D : Set) (l q o : List ℕ) (k : ℕ) (l' q' o' : List ℕ) (t : ℕ) → Starts U D l q k → Moved l q o k l' q' o' t → (n : ℕ) → In D n → Unchanged o o' n
 kept_targets U D l q o k l' q' o' t st m n d = m.frame n (λ x. absurd (st.apart n d x))
 
--- the heaviest places in the queue, then their attractor
-pub brought_of : (g : Game) (V U : Set) (w h : ℕ) (l q o : List ℕ) (k : ℕ) (l' q' o' : List ℕ) (t : ℕ) → Subgame g V → Closed g V U → length o' ≡ length o → Gathered g U V w h l q o k → Moved l q o k l' q' o' t → Attracts g U w (having U (weight g) h) l' q' o' t → Brought g U w h (members l') o'
-brought_of g V U w h l q o k l' q' o' t sub closed long ga m at = record {
-  within = λ n x. ga.starts.rest n (m.less n x);
+-- the heaviest places in the queue, each with a move within the set, then their attractor
+brought : (g : Game) (U : Set) (w h : ℕ) (l q o : List ℕ) (k : ℕ) (l' q' o' : List ℕ) (t : ℕ) → length o' ≡ length o → Starts U (having U (weight g) h) l q k → ((n : ℕ) → In (having U (weight g) h) n → side o n ≡ w) → ((n : ℕ) → In (having U (weight g) h) n → May g n (goes o n) × In U (goes o n)) →
+    Moved l q o k l' q' o' t → Attracts g U w (having U (weight g) h) l' q' o' t → Brought g U w h (members l') o'
+brought g U w h l q o k l' q' o' t long st given moves m at = record {
+  within = λ n x. st.rest n (m.less n x);
   rank = at.rank;
   attractor = at.attractor;
   labelled = λ n u x. labelled n u x (in_or_out (having U (weight g) h) n);
@@ -34,12 +35,20 @@ brought_of g V U w h l q o k l' q' o' t sub closed long ga m at = record {
 }
   where
     same : (n : ℕ) → In (having U (weight g) h) n → Unchanged o o' n
-    same = kept_targets U (having U (weight g) h) l q o k l' q' o' t ga.starts m
+    same = kept_targets U (having U (weight g) h) l q o k l' q' o' t st m
 
     labelled : (n : ℕ) → In U n → Out (members l') n → In (having U (weight g) h) n ⊎ Out (having U (weight g) h) n → side o' n ≡ w
-    labelled n u x (inl d) = same_side o o' n long (same n d) ∙ ga.labelled n d
+    labelled n u x (inl d) = same_side o o' n long (same n d) ∙ given n d
     labelled n u x (inr d) = at.labelled n u d x
 
+-- so it is of a subgame
+pub brought_of : (g : Game) (U : Set) (w h : ℕ) (l q o : List ℕ) (k : ℕ) (l' q' o' : List ℕ) (t : ℕ) → Subgame g U → length o' ≡ length o → Gathered g U w h l q o k → Moved l q o k l' q' o' t → Attracts g U w (having U (weight g) h) l' q' o' t → Brought g U w h (members l') o'
+brought_of g U w h l q o k l' q' o' t sub long ga m at = brought g U w h l q o k l' q' o' t long ga.starts ga.labelled (ga.moves sub) m at
+
+-- and of a closed part of one
+pub brought_in : (g : Game) (V U : Set) (w h : ℕ) (l q o : List ℕ) (k : ℕ) (l' q' o' : List ℕ) (t : ℕ) → Subgame g V → Closed g V U → length o' ≡ length o → GatheredIn g U V w h l q o k → Moved l q o k l' q' o' t → Attracts g U w (having U (weight g) h) l' q' o' t → Brought g U w h (members l') o'
+brought_in g V U w h l q o k l' q' o' t sub closed long ga m at = brought g U w h l q o k l' q' o' t long ga.starts ga.labelled moves m at
+  where
     moves : (n : ℕ) → In (having U (weight g) h) n → May g n (goes o n) × In U (goes o n)
     moves n d =
         let u = having_within U (weight g) h n d in
@@ -60,6 +69,10 @@ peeled_of g U X w l q o k l' q' o' t st m at = record {
 -- nothing is lost
 pub none_lost : (U R : Set) (q : ℕ) (l queue o : List ℕ) → Starts U (having R (side o) q) l queue 0 → (n : ℕ) → In R n → side o n ≡ q → ⊥
 none_lost U R q l queue o st n u e = omega (arith, (st.all n (having_in R (side o) q n u e)).1)
+
+-- and all is taken
+pub peels_none : (g : Game) (U : Set) (p q : ℕ) (l queue o l' : List ℕ) → Starts U (having U (side o) q) l queue 0 → ((n : ℕ) → Out (members l') n) → Peels g U U p q (members l') o o
+peels_none g U p q l queue o l' st none = inl (none_lost U U q l queue o st, peeled_whole g U U p (members l') o (λ n x. x) (λ n x. x) none)
 
 -- a place's weight occurs, and so there is a level less below it
 pub weight_occurs : (g : Game) (n h : ℕ) → n < length g → weight g n ≡ h → occurs g h ≡ true

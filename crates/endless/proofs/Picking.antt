@@ -9,7 +9,7 @@ use Rattle.endless.specs.Bits.{members, size, Removed}
 use Rattle.endless.specs.View.{Shows}
 use Rattle.endless.specs.declared.graph.Places.{Places}
 use Rattle.endless.specs.Pulling.{Passed, Unchanged, Starts}
-use Rattle.endless.specs.Levels.{HeaviestIn, HeaviestOf, Gathered, Stays, Taken, TakenIf}
+use Rattle.endless.specs.Levels.{HeaviestIn, HeaviestOf, GatheredIn, Stays, Taken, TakenIf}
 use Rattle.endless.specs.Parts.{Told, Part, PickedIf}
 use Rattle.endless.proofs.Tests.{T_true}
 use Rattle.endless.proofs.Sets.{having_in, having_within, having_is}
@@ -235,7 +235,7 @@ module _ {v : Places} {w h : ℕ} {own part out list : List ℕ} {i : ℕ} {left
     taking_more {g₀} s₀ room {left'} {queue'} {out''} {r} (inr t) =
         rw t.0 (taking_take room t.1 t.3 (λ g s. picking_more (so_far.picks g s) space (inr (refl, t.1, t.2 g s (inside g s), t.3.left_is, t.3.queue_is))) ((so_far.picks g₀ s₀).rest (get_or list i 0) t.1))
 
-  pub taking_all : i ≡ length list → (g : Game) → Shows v g → 0 < length list → Told list (members part) → Gathered g (members part) (members own) w h left queue out' count
+  pub taking_all : i ≡ length list → (g : Game) → Shows v g → 0 < length list → Told list (members part) → GatheredIn g (members part) (members own) w h left queue out' count
   taking_all end g s some told = record {
     starts = starts;
     labelled = λ n y. so_far.labelled n (having_within (members part) (weight g) h n y) (starts.apart n y);

@@ -16,6 +16,12 @@ pub record HeaviestIn (g : Game) (U : Set) (h : ℕ) : Type 0 where
   pub most : (n : ℕ) → In U n → weight g n ≤ h
   pub some_place : (n : ℕ) × In U n × (weight g n ≡ h)
 
+-- the places of weight h of a set stand in the queue, are given to a side, with a move of each into the set; the others are left
+pub record Gathered (g : Game) (U : Set) (w h : ℕ) (left queue out : List ℕ) (count : ℕ) : Type 0 where
+  pub starts : Starts U (having U (weight g) h) left queue count
+  pub labelled : (n : ℕ) → In (having U (weight g) h) n → side out n ≡ w
+  pub moves : Subgame g U → (n : ℕ) → In (having U (weight g) h) n → May g n (goes out n) × In U (goes out n)
+
 -- h is the heaviest weight of the places of a list
 pub record HeaviestOf (g : Game) (list : List ℕ) (h : ℕ) : Type 0 where
   pub most : (j : ℕ) → j < length list → weight g (slice_index list j) ≤ h
@@ -26,7 +32,7 @@ abbrev pub Stays : Game → Set → ℕ → ℕ → Type 0
 Stays g U n m = (k : ℕ) → May g n k → In U k → May g n m × In U m
 
 -- the places of weight h of a set U stand in the queue, are given to a side, each with a move that stays in V, where it has one; the others are left
-pub record Gathered (g : Game) (U V : Set) (w h : ℕ) (left queue out : List ℕ) (count : ℕ) : Type 0 where
+pub record GatheredIn (g : Game) (U V : Set) (w h : ℕ) (left queue out : List ℕ) (count : ℕ) : Type 0 where
   pub starts : Starts U (having U (weight g) h) left queue count
   pub labelled : (n : ℕ) → In (having U (weight g) h) n → side out n ≡ w
   pub stays : (n : ℕ) → In (having U (weight g) h) n → Stays g V n (goes out n)

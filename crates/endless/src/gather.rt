@@ -7,7 +7,7 @@ ghost use Rattle.endless.specs.Sides.{number};
 ghost use Rattle.endless.specs.Bits.{members, size};
 ghost use Rattle.endless.specs.View.{Shows};
 ghost use Rattle.endless.specs.Pulling.{Unchanged, Starts};
-ghost use Rattle.endless.specs.Levels.{HeaviestIn, HeaviestOf, Gathered, Given, Taken, TakenIf, Stays};
+ghost use Rattle.endless.specs.Levels.{HeaviestIn, HeaviestOf, Gathered, GatheredIn, Given, Taken, TakenIf, Stays};
 ghost use Rattle.endless.specs.Parts.{Told, Part, PickedIf, wanted, mark};
 
 use crate::attractor::first_into;
@@ -16,7 +16,7 @@ use crate::graph::Places;
 use crate::side::Side;
 
 /// The heaviest weight of the places of a set.
-fn heaviest(places: Places, set: &[u32]) -> u32
+pub(crate) fn heaviest(places: Places, set: &[u32]) -> u32
     requires game { (g : Game) × Shows places g × ((n : ℕ) → In (members set.now) n → n < length g) }
     requires small { 32 * length set.now < 2 ^ 32 }
     ensures { (g : Game) → Shows places.entry g → 0 < size set.now → HeaviestIn g (members set.now) result }
@@ -75,8 +75,31 @@ fn take_place(
 }
 
 /// Puts the places of a weight into the queue, each given to `side` with a
+/// move of it that stays in `own`; `left` becomes the others.
+pub(crate) fn gather_heaviest(
+    places: Places,
+    side: Side,
+    heaviest: u32,
+    own: &[u32],
+    left: &mut [u32],
+    out: &mut [u32],
+    queue: &mut [u32],
+) -> usize
+    requires game { (g : Game) × Shows places g × ((n : ℕ) → In (members own.now) n → n < length g) × (2 * length g ≤ length out.old) × (length g ≤ 32 * length own.now) }
+    requires same { length left.old ≡ length own.now }
+    requires room { size own.now ≤ length queue.old }
+    requires small { 32 * length own.now < 2 ^ 32 }
+    ensures counts { result + size left.new ≡ size own.now }
+    ensures frame { (n : ℕ) → Out (members own.now) n → Unchanged out.old out.new n }
+    ensures gathered { (g : Game) → Shows places.entry g → Gathered g (members own.now) (number side) heaviest left.new queue.new out.new result }
+{
+    bits::copy(own, left);
+    gather_heaviest_in(places, side, heaviest, own, left, out, queue)
+}
+
+/// Puts the places of a weight into the queue, each given to `side` with a
 /// move of it that stays in `own`; `left`, a part of it, becomes the others.
-fn gather_heaviest(
+fn gather_heaviest_in(
     places: Places,
     side: Side,
     heaviest: u32,
@@ -91,7 +114,7 @@ fn gather_heaviest(
     requires small { 32 * length own.now < 2 ^ 32 }
     ensures counts { result + size left.new ≡ size left.old }
     ensures frame { (n : ℕ) → Out (members left.old) n → Unchanged out.old out.new n }
-    ensures gathered { (g : Game) → Shows places.entry g → Gathered g (members left.old) (members own.now) (number side) heaviest left.new queue.new out.new result }
+    ensures gathered { (g : Game) → Shows places.entry g → GatheredIn g (members left.old) (members own.now) (number side) heaviest left.new queue.new out.new result }
 {
     let mut count = 0;
     let mut from = 0;
@@ -110,11 +133,11 @@ fn heaviest_of(places: Places, list: &[u32]) -> u32
     requires { (g : Game) × Shows places g × ((j : ℕ) → j < length list.now → slice_index list.now j < length g) }
     ensures { (g : Game) → Shows places.entry g → 0 < length list.now → HeaviestOf g list.now result }
 {
-    let mut heaviest: u32 = 0;
+    let mut most: u32 = 0;
     for place in list {
-        heaviest = heaviest.max(places.head(*place).weight);
+        most = most.max(places.head(*place).weight);
     }
-    heaviest
+    most
 }
 
 /// The heaviest weight of a part, told by a list of its places, if there is
@@ -162,7 +185,7 @@ fn take_heavy(
     count + 1
 }
 
-/// Does what `gather_heaviest` does, by a list of the places.
+/// Does what `gather_heaviest_in` does, by a list of the places.
 fn gather_heaviest_of(
     places: Places,
     side: Side,
@@ -179,7 +202,7 @@ fn gather_heaviest_of(
     requires small { 32 * length own.now < 2 ^ 32 }
     ensures counts { result + size left.new ≡ size left.old }
     ensures frame { (n : ℕ) → Out (members left.old) n → Unchanged out.old out.new n }
-    ensures gathered { (g : Game) → Shows places.entry g → 0 < length list.now → Told list.now (members left.old) → Gathered g (members left.old) (members own.now) (number side) heaviest left.new queue.new out.new result }
+    ensures gathered { (g : Game) → Shows places.entry g → 0 < length list.now → Told list.now (members left.old) → GatheredIn g (members left.old) (members own.now) (number side) heaviest left.new queue.new out.new result }
 {
     let mut count = 0;
     for place in list {
@@ -207,10 +230,10 @@ pub(crate) fn gather_targets(
     requires small { 32 * length own.now < 2 ^ 32 }
     ensures counts { result + size left.new ≡ size left.old }
     ensures frame { (n : ℕ) → Out (members left.old) n → Unchanged out.old out.new n }
-    ensures gathered { (g : Game) → Shows places.entry g → Gathered g (members left.old) (members own.now) (number side) heaviest left.new queue.new out.new result }
+    ensures gathered { (g : Game) → Shows places.entry g → GatheredIn g (members left.old) (members own.now) (number side) heaviest left.new queue.new out.new result }
 {
     if list.len() == 0 {
-        gather_heaviest(places, side, heaviest, own, left, out, queue)
+        gather_heaviest_in(places, side, heaviest, own, left, out, queue)
     } else {
         gather_heaviest_of(places, side, heaviest, list, own, left, out, queue)
     }
@@ -218,7 +241,7 @@ pub(crate) fn gather_targets(
 
 /// Takes the places that the answer gives to a side out of the set and puts
 /// them into the queue.
-fn gather_won(winner: Side, set: &mut [u32], out: &[u32], queue: &mut [u32]) -> usize
+pub(crate) fn gather_won(winner: Side, set: &mut [u32], out: &[u32], queue: &mut [u32]) -> usize
     requires answers { (n : ℕ) → In (members set.old) n → 2 * n < length out.now }
     requires room { size set.old ≤ length queue.old }
     requires small { 32 * length set.old < 2 ^ 32 }

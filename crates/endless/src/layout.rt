@@ -7,8 +7,8 @@ ghost use Rattle.endless.specs.Subgames.{Solves};
 ghost use Rattle.endless.specs.Pulling.{Unchanged};
 ghost use Rattle.endless.specs.Layout.{OutRoomIs, LaidOut};
 
+use crate::by_parts::level_by_parts;
 use crate::graph::{Graph, Places};
-use crate::level::level;
 use crate::order::Effort;
 use crate::{bits, weights};
 
@@ -92,7 +92,7 @@ pub(crate) fn solve_game<'a>(words: &'a [u32], out: &mut [u32], work: &'a mut [u
     } = lay_out(words, work);
     let (sets, spare) = rest.split_at_mut(weights::levels(words) * all.len());
     let mut effort = Effort::new(words[0]);
-    level(
+    level_by_parts(
         graph,
         256,
         words[0] as usize,

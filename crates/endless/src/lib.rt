@@ -10,6 +10,7 @@ ghost use Rattle.endless.specs.Promises.{SolvedPost};
 pub mod answer;
 pub mod attractor;
 pub mod bits;
+pub mod by_parts;
 pub mod closed;
 mod components;
 pub mod dominion;

@@ -1,10 +1,14 @@
 -- What a play has come through, and what is left of it when a choice is taken back.
-use Rattle.std.specs.Prelude.{◌≡◌, ℕ, ◌+◌, ◌-◌, ◌^◌, ◌<◌, ◌≤◌, min, [], ◌∷◌, ◌++◌, take, Some, None, Option, MatchOption}
+use Rattle.std.specs.Prelude.{◌≡◌, ℕ, ◌+◌, ◌-◌, ◌^◌, ◌<◌, ◌≤◌, min, List, [], ◌∷◌, ◌++◌, length, take, drop, Some, None, Option, MatchOption}
 use Rattle.std.specs.VecDeque.{deque_items, deque_len}
 use Rattle.std.specs.Option.{option_to_list}
 use Rattle.playing.specs.Windows.{latest}
 use Rattle.playing.specs.declared.trail.Choice.{Choice}
 use Rattle.playing.specs.declared.trail.Trail.{Trail}
+
+-- the last n choices, or all where there are fewer
+abbrev pub latest_choices : ℕ → List Choice → List Choice
+latest_choices n cs = drop (length cs - n) cs
 
 -- the play stands at its first place, of weight w
 pub record Started (w : ℕ) (t : Trail) : Type 0 where
@@ -21,7 +25,7 @@ pub record Came (w : ℕ) (t t' : Trail) : Type 0 where
 -- a choice at a place is kept, with the number of moves made before it, and the last 999 before it
 pub record Chosen (n : ℕ) (t t' : Trail) : Type 0 where
   pub weights : deque_items t'.weights ≡ deque_items t.weights
-  pub choices : deque_items t'.choices ≡ latest 999 (deque_items t.choices) ++ record { place = n; made = t.made } ∷ []
+  pub choices : deque_items t'.choices ≡ latest_choices 999 (deque_items t.choices) ++ record { place = n; made = t.made } ∷ []
   pub as_many : t'.made ≡ t.made
 
 -- so many weights are left of those kept, when of the moves made now only those made then are left

@@ -4,7 +4,7 @@ use Rattle.endless.specs.Games.{Among}
 use Rattle.endless.specs.Graph.{times}
 
 -- the last n of a list, or all where there are fewer
-abbrev pub latest : {X : Type 0} → ℕ → List X → List X
+abbrev pub latest : ℕ → List ℕ → List ℕ
 latest n xs = drop (length xs - n) xs
 
 -- what stands in a ring, from the oldest on

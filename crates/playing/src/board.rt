@@ -32,6 +32,25 @@ pub struct Board<'a> {
 }
 
 impl<'a> Board<'a> {
+    /// Solves the game that these words are. The other words are lent: two
+    /// for each place for `answer`, one for each place for `low` and `high`,
+    /// and for `work` what the solver asks for. `None` where the words are no
+    /// game, or too few are lent.
+    pub fn solve(
+        words: &'a [u32],
+        answer: &'a mut [u32],
+        work: &mut [u32],
+        low: &'a mut [u32],
+        high: &'a mut [u32],
+    ) -> Option<Board<'a>>
+        ensures { IfSome result (λ b. (g : Game) × (Reads words.now g × Stands b g)) }
+    {
+        if !solve(words, answer, work) {
+            return None;
+        }
+        Board::new(words, answer, low, high)
+    }
+
     /// A board of the game that these words are, with an answer to it, as
     /// `solve` gives one. The other words are lent, one for each place for
     /// `low` and for `high`. `None` where the words are no game, or too few or

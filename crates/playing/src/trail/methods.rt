@@ -2,7 +2,7 @@
 ghost use Rattle.std.specs.Prelude.{◌≡◌, ◌<◌, length, take, IfOk, OnOk};
 ghost use Rattle.std.specs.VecDeque.{deque_len};
 ghost use Rattle.playing.specs.Windows.{HeaviestIs, latest};
-ghost use Rattle.playing.specs.Trails.{Started, Came, Chosen, Back, LeftAt};
+ghost use Rattle.playing.specs.Trails.{Started, Came, Chosen, Back, LeftAt, latest_choices};
 
 use crate::trail::{Choice, MOST_CHOICES, MOST_KEPT, Trail};
 use crate::window;
@@ -63,7 +63,7 @@ impl Trail {
     /// Forgets the oldest choice where as many are kept as may be.
     fn make_choice_room(&mut self)
         ensures room { deque_len self.new.choices < 1000 }
-        ensures kept { self.new.choices.items ≡ latest 999 self.old.choices.items }
+        ensures kept { self.new.choices.items ≡ latest_choices 999 self.old.choices.items }
         ensures weights { self.new.weights ≡ self.old.weights }
         ensures count { self.new.made ≡ self.old.made }
     {

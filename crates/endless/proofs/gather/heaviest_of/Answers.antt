@@ -12,7 +12,7 @@ head-requires c = let p = c.requires in (p.0, p.2 c.loop-place.place-index (omeg
 pub loop-place-preserved : goal.loop-place-preserved
 loop-place-preserved c =
     let p = c.requires in
-    weighed_more c.loop-place.invariant (λ g s. (c.head.ensures g (in_every c.args.places p.1 (p.2 c.loop-place.place-index (omega arith)) g s) s).1) c.max-heaviest.ensures
+    weighed_more c.loop-place.invariant (λ g s. (c.head.ensures g (in_every c.args.places p.1 (p.2 c.loop-place.place-index (omega arith)) g s) s).1) c.max-most.ensures
 
 pub returns : goal.returns
 returns c = weighed_all (omega arith) c.loop-place.invariant

@@ -3,8 +3,8 @@ use Rattle.endless.proofs.Reading.{places_are}
 use Rattle.endless.proofs.Layouts.{first_room, filled_solved, filled_subgame, filled_out}
 use Rattle.endless.proofs.layout.solve_game.Goals as goal
 
-pub level-requires : goal.level-requires
-level-requires c =
+pub level_by_parts-requires : goal.level_by_parts-requires
+level_by_parts-requires c =
     let p = c.requires in
     let laid = c.lay_out-queue.ensures p.0 p.1 in
     record {
@@ -16,9 +16,9 @@ level-requires c =
 
 pub returns : goal.returns
 returns c = record {
-  frame = λ g r n h. c.level.ensures.frame n (filled_out g c.lay_out-queue.result.all.now (c.lay_out-queue.ensures g r).are n h);
+  frame = λ g r n h. c.level_by_parts.ensures.frame n (filled_out g c.lay_out-queue.result.all.now (c.lay_out-queue.ensures g r).are n h);
   solves = λ g r.
       let laid = c.lay_out-queue.ensures g r in
       let all = c.lay_out-queue.result.all.now in
-      filled_solved g all laid.are c.level.new.out (c.level.ensures.solves g laid.graphs (filled_subgame g all laid.are r));
+      filled_solved g all laid.are c.level_by_parts.new.out (c.level_by_parts.ensures.solves g laid.graphs (filled_subgame g all laid.are r));
 }

@@ -8,7 +8,7 @@ use Rattle.endless.proofs.SetLaws.{size_none, members_below}
 use Rattle.endless.proofs.Picking.{told_in, starts_as}
 use Rattle.endless.proofs.Turns.{peeled_whole}
 use Rattle.endless.proofs.Levels.{peeled_of}
-use Rattle.endless.proofs.level.peel_won.Goals as goal
+use Rattle.endless.proofs.by_parts.peel_won.Goals as goal
 
 pub returns-then-list-eq0 : goal.returns-then-list-eq0
 returns-then-list-eq0 c = record {

@@ -1,7 +1,7 @@
 use Rattle.std.proofs.Common.{◌-◌, ◌*◌, length}
 use Rattle.endless.specs.Sides.{number}
 use Rattle.endless.proofs.Gathering.{Giving}
-use Rattle.endless.proofs.gather.gather_heaviest.Given as goal
+use Rattle.endless.proofs.gather.gather_heaviest_in.Given as goal
 
 abbrev pub invariant-loop-place : goal.invariant-loop-place
 invariant-loop-place l = Giving l.places (number l.side) l.heaviest l.own l.initial.left l.initial.out l.left l.queue l.out l.from l.count

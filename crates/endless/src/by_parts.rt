@@ -1,0 +1,202 @@
+//! The recursion over weights by closed parts: who wins each place of a subgame, and with which moves.
+ghost use Rattle.std.specs.Prelude.{◌≡◌, ℕ, ◌+◌, ◌*◌, ◌%◌, ◌^◌, ◌<◌, ◌≤◌, length, slice_index};
+ghost use Rattle.endless.specs.Games.{Game, other};
+ghost use Rattle.endless.specs.Says.{side, goes};
+ghost use Rattle.endless.specs.Sets.{Set, In, Out, Within};
+ghost use Rattle.endless.specs.Subgames.{Subgame, Closed, Solves};
+ghost use Rattle.endless.specs.Sides.{number};
+ghost use Rattle.endless.specs.Bits.{members, size};
+ghost use Rattle.endless.specs.View.{Graphs};
+ghost use Rattle.endless.specs.Pulling.{Unchanged, Sized};
+ghost use Rattle.endless.specs.Levels.{HeaviestIn, Brought, Peeled, Peels, Room};
+ghost use Rattle.endless.specs.Parts.{Covers, Part};
+
+use crate::attractor::attract_counted;
+use crate::bits;
+use crate::closed::take_part;
+use crate::gather::{gather_listed, gather_lost, gather_targets, heaviest_in};
+use crate::graph::Graph;
+use crate::order::{Effort, Order, find_start};
+use crate::side::Side;
+
+/// Copies the first places of the queue.
+fn save(queue: &[u32], list: &mut [u32])
+    requires { length list.old ≤ length queue.now }
+    ensures { (j : ℕ) → j < length list.old → slice_index list.new j ≡ slice_index queue.now j }
+{
+    list.copy_from_slice(&queue[0..list.len()]);
+}
+
+/// How many places a part of `many` places has: those of its list, or all.
+fn part_size(list: &[u32], many: usize) -> usize
+    ensures { (length list.now ≡ 0 → result ≡ many) × (0 < length list.now → result ≡ length list.now) }
+{
+    if list.len() == 0 { many } else { list.len() }
+}
+
+/// Takes from a part of `own` the attractor of its places of the heaviest
+/// weight for the side that this weight is good for, and gives it to that
+/// side; `left`, at first the part, becomes the rest. The heaviest weight, and
+/// how many places are left. `own` has `many`.
+fn bring_about_part(
+    graph: Graph,
+    many: usize,
+    own: &[u32],
+    list: &[u32],
+    left: &mut [u32],
+    out: &mut [u32],
+    queue: &mut [u32],
+    escapes: &mut [u32],
+) -> (u32, usize)
+    requires game { (g : Game) × Graphs graph g × ((n : ℕ) → In (members own.now) n → n < length g) × Sized g own.now out.old escapes.old }
+    requires part { Part own.now list.now (members left.old) }
+    requires sized { (length list.now ≡ 0 → many ≡ size left.old) × (0 < length list.now → length list.now ≡ size left.old) }
+    requires same { length left.old ≡ length own.now }
+    requires room { size own.now ≤ length queue.old }
+    requires small { 32 * length own.now < 2 ^ 32 }
+    ensures heaviest { (g : Game) → Graphs graph.entry g → 0 < size left.old → HeaviestIn g (members left.old) result.0 }
+    ensures rest { result.1 ≡ size left.new }
+    ensures frame { (n : ℕ) → Out (members left.old) n → Unchanged out.old out.new n }
+    ensures brought { (g : Game) → Graphs graph.entry g → Subgame g (members own.now) → Closed g (members own.now) (members left.old) → Brought g (members left.old) (result.0 % 2) result.0 (members left.new) out.new }
+{
+    let weight = heaviest_in(graph.places, list, left);
+    let side = Side::of_weight(weight);
+    let targets = gather_targets(graph.places, side, weight, list, own, left, out, queue);
+    let all = part_size(list, many);
+    let taken = attract_counted(graph, side, left, out, queue, escapes, targets, all);
+    (weight, all - taken)
+}
+
+/// Takes a part of `own` away, which `winner` has won, with all from which it
+/// can be brought about, and gives these to that side. `own` has `many` places;
+/// how many are left.
+fn peel_won(
+    graph: Graph,
+    winner: Side,
+    many: usize,
+    list: &[u32],
+    own: &mut [u32],
+    out: &mut [u32],
+    queue: &mut [u32],
+    escapes: &mut [u32],
+) -> usize
+    requires game { (g : Game) × Graphs graph g × ((n : ℕ) → In (members own.old) n → n < length g) × Sized g own.old out.old escapes.old }
+    requires part { (R : Set) × Part own.old list.now R }
+    requires counted { many ≡ size own.old }
+    requires room { size own.old ≤ length queue.old }
+    requires small { 32 * length own.old < 2 ^ 32 }
+    ensures rest { result ≡ size own.new }
+    ensures falls { 0 < size own.old → size own.new < size own.old }
+    ensures less { Within (members own.new) (members own.old) }
+    ensures frame { (n : ℕ) → Out (members own.old) n → Unchanged out.old out.new n }
+    ensures peeled { (g : Game) (R : Set) → Graphs graph.entry g → Subgame g (members own.old) → Part own.old list.now R → Peeled g (members own.old) (number winner) R (members own.new) out.old out.new }
+{
+    if list.len() == 0 {
+        bits::clear(own);
+        0
+    } else {
+        let targets = gather_listed(None, list, own, out, queue);
+        let taken = attract_counted(graph, winner, own, out, queue, escapes, targets, many);
+        many - taken
+    }
+}
+
+/// Takes from `own` what of a part the answer gives to the other side than
+/// `winner`, with all from which that can be brought about, and gives these to
+/// it too; or all of the part, with the same for `winner`, where the answer
+/// gives the other none. `own` has `many` places; how many are left.
+fn peel_part(
+    graph: Graph,
+    winner: Side,
+    many: usize,
+    list: &[u32],
+    own: &mut [u32],
+    out: &mut [u32],
+    queue: &mut [u32],
+    escapes: &mut [u32],
+) -> usize
+    requires game { (g : Game) × Graphs graph g × ((n : ℕ) → In (members own.old) n → n < length g) × Sized g own.old out.old escapes.old }
+    requires part { (R : Set) × Part own.old list.now R }
+    requires counted { many ≡ size own.old }
+    requires room { size own.old ≤ length queue.old }
+    requires small { 32 * length own.old < 2 ^ 32 }
+    ensures rest { result ≡ size own.new }
+    ensures falls { 0 < size own.old → size own.new < size own.old }
+    ensures less { Within (members own.new) (members own.old) }
+    ensures frame { (n : ℕ) → Out (members own.old) n → Unchanged out.old out.new n }
+    ensures peels { (g : Game) (R : Set) → Graphs graph.entry g → Subgame g (members own.old) → Part own.old list.now R → Peels g (members own.old) R (number winner) (other (number winner)) (members own.new) out.old out.new }
+{
+    let loser = winner.other();
+    let lost = gather_lost(loser, list, own, out, queue);
+    if lost == 0 {
+        peel_won(graph, winner, many, list, own, out, queue, escapes)
+    } else {
+        let taken = attract_counted(graph, loser, own, out, queue, escapes, lost, many);
+        many - taken
+    }
+}
+
+/// Solves a subgame of `many` places in which all weights are below `bound`: writes for each
+/// place who wins it, and a move. The smaller games stand in `rest`, one set
+/// for each weight that is left. `within` is empty, or has all places of the
+/// subgame; `spare` is lent for lists of places; where it
+/// is short there are none. `effort` tells when it is worth while to look for
+/// a smaller part.
+pub fn level_by_parts(
+    graph: Graph,
+    bound: u32,
+    many: usize,
+    own: &mut [u32],
+    within: &[u32],
+    rest: &mut [u32],
+    spare: &mut [u32],
+    out: &mut [u32],
+    queue: &mut [u32],
+    escapes: &mut [u32],
+    effort: &mut Effort,
+)
+    requires room { (g : Game) × Graphs graph g × Room g bound own.old rest.old out.old queue.old escapes.old }
+    requires counted { many ≡ size own.old }
+    requires covers { Covers own.old within.now }
+    requires inside { (j : ℕ) → j < length within.now → slice_index within.now j < 32 * length own.old }
+    ensures frame { (n : ℕ) → Out (members own.old) n → Unchanged out.old out.new n }
+    ensures solves { (g : Game) → Graphs graph.entry g → Subgame g (members own.old) → Solves g (members own.old) (side out.new) (goes out.new) }
+{
+    let mut order = Order::new();
+    let mut remaining = many;
+    while remaining > 0 {
+        let start = find_start(
+            graph.places,
+            own,
+            remaining,
+            spare,
+            queue,
+            escapes,
+            &mut order,
+            effort,
+        );
+        let (_, free) = spare.split_at_mut(order.kept.min(spare.len()));
+        let (left, deeper) = rest.split_at_mut(own.len());
+        let count = take_part(graph.places, start, within, free.len(), own, left, queue);
+        let (list, beyond) = free.split_at_mut(count);
+        save(queue, list);
+        let (weight, below) = bring_about_part(
+            graph, remaining, own, list, left, out, queue, escapes,
+        );
+        if below > 0 {
+            level_by_parts(
+                graph, weight, below, left, list, deeper, beyond, out, queue, escapes, effort,
+            );
+        }
+        remaining = peel_part(
+            graph,
+            Side::of_weight(weight),
+            remaining,
+            list,
+            own,
+            out,
+            queue,
+            escapes,
+        );
+    }
+}
