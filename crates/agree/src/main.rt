@@ -1,5 +1,7 @@
 //! Makes games, solves each, compares the answers with those of a second way,
 //! and prints how many there were and how many disagreed.
+#![tactic(auto)]
+
 mod answer;
 mod report;
 mod trial;

@@ -4,6 +4,8 @@
 //! A small game is decided by trying all plans of both sides. An answer for a
 //! game of any size is checked by looking for a round of the wrong kind among
 //! the places of each side. Games to try are made here too.
+#![tactic(auto)]
+
 mod builder;
 pub mod checker;
 mod components;

@@ -1,4 +1,6 @@
 //! The drawing of a parity game as text, read into words.
+#![tactic(auto)]
+
 ghost use Rattle.std.specs.Prelude.{◌≡◌, ◌≤◌, length, IfOk, IfErr};
 ghost use Rattle.drawing.specs.Answer.{Answers, drawn_names, drawn_words};
 ghost use Rattle.drawing.specs.Drawn.{Drawn};

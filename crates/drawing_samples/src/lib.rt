@@ -1,4 +1,5 @@
 //! Samples of drawings, as tests of the crate `drawing`.
+#![tactic(auto)]
 
 #[cfg(test)]
 mod tests {

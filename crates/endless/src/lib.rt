@@ -4,6 +4,8 @@
 //! A game is a list of words: how many places; then for each place whose
 //! move it is, its weight, how many moves it has, and these. An answer is two
 //! words for each place: the side that wins it, and a move.
+#![tactic(auto)]
+
 ghost use Rattle.std.specs.Prelude.{length};
 ghost use Rattle.endless.specs.Promises.{SolvedPost};
 

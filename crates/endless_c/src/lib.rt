@@ -1,4 +1,6 @@
 //! The solver for C and C++: a slice is a pointer and a length.
+#![tactic(auto)]
+
 ghost use Rattle.std.specs.Prelude.{length, ◌≡◌};
 ghost use Rattle.endless.specs.Promises.{SolvedPost};
 ghost use Rattle.endless.specs.declared.Solved.{Solved as Outcome};

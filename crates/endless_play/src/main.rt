@@ -1,4 +1,6 @@
 //! Plays a solved game with a person.
+#![tactic(auto)]
+
 mod args;
 mod fault;
 mod game;

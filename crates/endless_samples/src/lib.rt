@@ -1,4 +1,5 @@
 //! Samples of games, as tests of the crate `endless`.
+#![tactic(auto)]
 
 #[cfg(test)]
 mod tests {

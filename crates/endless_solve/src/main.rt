@@ -1,5 +1,7 @@
 //! Reads the drawing of a game, and tells who wins each place and by which
 //! move.
+#![tactic(auto)]
+
 mod args;
 mod fault;
 mod input;

@@ -1,5 +1,7 @@
 //! Games in which a place may have no moves: whoever is to move there has
 //! lost. Words and answers are of the same form as those of `endless`.
+#![tactic(auto)]
+
 ghost use Rattle.std.specs.Prelude.{◌≡◌, ◌+◌, ◌*◌, length, nat_le};
 ghost use Rattle.ends.specs.Says.{told, EndsPost};
 

@@ -1,4 +1,6 @@
 //! PGSolver's text form of a parity game, read into words.
+#![tactic(auto)]
+
 ghost use Rattle.std.specs.Prelude.{◌≡◌, ◌≤◌, List, length, IfOk, IfErr, Ok};
 ghost use Rattle.pgsolver.specs.Form.{Entry, entries};
 ghost use Rattle.pgsolver.specs.Held.{Holds};

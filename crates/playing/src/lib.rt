@@ -1,4 +1,6 @@
 //! Playing a solved game: the weights that came last, and the play's steps.
+#![tactic(auto)]
+
 pub mod board;
 pub mod counts;
 pub mod steps;

@@ -1,5 +1,7 @@
 //! Plays a game by its answer's plan against moves at random, and tells what
 //! came.
+#![tactic(auto)]
+
 mod fault;
 mod input;
 mod play;

@@ -52,7 +52,8 @@ impl Trail {
 
     /// A choice is about to be made at this place.
     pub fn choose(&mut self, place: u32) -> Result<(), AllocError>
-        ensures { OnOk result (Chosen place self.old self.new) }
+        ensures weights { self.new.weights.items ≡ self.old.weights.items }
+        ensures chosen { OnOk result (Chosen place self.old self.new) }
     {
         self.make_choice_room();
         let made = self.made;
