@@ -1,5 +1,5 @@
 -- Among a list: at some index of it.
-use Rattle.std.proofs.Common.{◌≡◌, ℕ, zero, suc, ◌<◌, List, [], ◌∷◌, length, get_or, sym, refl, subst, arith}
+use Rattle.std.proofs.Common.{◌≡◌, ℕ, zero, suc, ◌<◌, List, [], ◌∷◌, length, get_or, refl, arith}
 use Rattle.endless.specs.Games.{Among, first, later}
 
 pub among_at : (m : ℕ) (l : List ℕ) → Among m l → (k : ℕ) × (k < length l) × (get_or l k 0 ≡ m)

@@ -1,5 +1,5 @@
 -- The worked example: a game of three places, an answer whose plans win, and one whose do not.
-use Rattle.std.proofs.Common.{◌≡◌, ℕ, zero, suc, ◌%◌, ◌<◌, ◌≤◌, true, T, eqb, ltb, ◌⊎◌, List, [], ◌∷◌, sym, refl, subst, inl, inr, suc-ne-zero, arith, eqb→eq, ltb→lt}
+use Rattle.std.proofs.Common.{◌≡◌, ℕ, zero, suc, ◌%◌, ◌<◌, ◌≤◌, T, eqb, ltb, ◌⊎◌, List, [], ◌∷◌, sym, refl, subst, inl, inr, suc-ne-zero, arith, eqb→eq, ltb→lt}
 use Rattle.std.proofs.lemmas.Bool.{cases_eq}
 use Rattle.endless.specs.Games.{Reads, row, whose, Among, first, later, May}
 use Rattle.endless.specs.Says.{WinsFrom, Round, last, then1, heaviest, goes}

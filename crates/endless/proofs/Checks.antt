@@ -1,20 +1,18 @@
 -- Looking at an answer: the places given to a side, and what a flaw of its plan there says of the answer.
-use Rattle.std.proofs.Common.{◌≡◌, ℕ, ◌+◌, ◌*◌, ◌/◌, ◌%◌, ◌<◌, ◌≤◌, Bool, true, false, ◌||◌, T, eqb, ltb, ◌⊎◌, ◌↔◌, List, length, get_or, Some, None, Option, sym, refl, ap, ◌∙◌, subst, inl, inr, arith, ltb→lt, lt→ltb, MatchOption}
+use Rattle.std.proofs.Common.{◌≡◌, ℕ, ◌+◌, ◌*◌, ◌%◌, ◌<◌, ◌≤◌, Bool, ◌||◌, T, ltb, ◌⊎◌, ◌↔◌, List, length, get_or, Some, None, Option, sym, refl, ap, ◌∙◌, subst, inl, inr, arith, ltb→lt, lt→ltb, MatchOption}
 use Rattle.std.proofs.lemmas.Bool.{cases_eq, eq-eqb, ne_eqb}
-use Rattle.endless.specs.Games.{Game, Reads, whose, May, other}
+use Rattle.endless.specs.Games.{Game, Reads}
 use Rattle.endless.specs.Says.{WinsFrom, side, goes}
-use Rattle.endless.specs.Sets.{Set, In, Out, Within, whole, having}
+use Rattle.endless.specs.Sets.{Set, In, Within, whole, having}
 use Rattle.endless.specs.Subgames.{Holds, Solves}
 use Rattle.endless.specs.Sides.{number}
 use Rattle.endless.specs.Bits.{members, size, Inserted}
-use Rattle.endless.specs.Layout.{width}
-use Rattle.endless.specs.Flaws.{FlawIs, LosesRound}
-use Rattle.endless.specs.Checked.{IsAnswer, ReasonIs, CheckedSays, CheckedPost, Tabled}
+use Rattle.endless.specs.Flaws.{FlawIs}
+use Rattle.endless.specs.Checked.{IsAnswer, ReasonIs, CheckedPost, Tabled}
 use Rattle.endless.specs.declared.flaw.Flaw.{Flaw}
 use Rattle.endless.specs.declared.flaw.Flaw.TheVariants.{NoMove, Leaves, Escape, LosingRound}
 use Rattle.endless.specs.declared.verdict.Reason.{Reason}
 use Rattle.endless.specs.declared.verdict.Reason.TheVariants.{Short, NoSide, Plan}
-use Rattle.endless.specs.declared.verdict.Checked.{Checked}
 use Rattle.endless.specs.declared.verdict.Checked.TheVariants.{Right, Wrong, NoGame, Few}
 use Rattle.endless.specs.declared.side.Side.{Side}
 use Rattle.endless.specs.declared.side.Side.TheVariants.{Even, Odd}
@@ -25,8 +23,7 @@ use Rattle.endless.proofs.Places.{not_other}
 use Rattle.endless.proofs.Sets.{whole_in, whole_place, having_in, having_within, having_is, each_map}
 use Rattle.endless.proofs.SetLaws.{size_sub}
 use Rattle.endless.proofs.Working.{side_at}
-use Rattle.endless.proofs.Steps.{holds_as, wins_holds, wins_as, solves_wins}
-use Rattle.endless.proofs.Layouts.{filled_whole, whole_filled}
+use Rattle.endless.proofs.Steps.{wins_holds, wins_as, solves_wins}
 
 -- ---- the places given to a side
 

@@ -1,8 +1,7 @@
 -- Whether a place has a move into a set, by its list of moves.
-use Rattle.std.proofs.Common.{◌≡◌, ℕ, ◌<◌, true, false, List, length, get_or, sym, refl, ap, ◌∙◌, subst, arith}
+use Rattle.std.proofs.Common.{◌≡◌, ℕ, ◌<◌, true, false, List, length, get_or, sym, refl, ap, ◌∙◌, subst}
 use Rattle.std.proofs.lemmas.Bool.{both_ways}
 use Rattle.endless.specs.Games.{Game, Reads, Among, May}
-use Rattle.endless.specs.Sets.{In}
 use Rattle.endless.specs.Bits.{members}
 use Rattle.endless.specs.Graph.{moves}
 use Rattle.endless.specs.Pulling.{Escapes}

@@ -1,5 +1,5 @@
 -- Ranks that do not rise along a plan's moves and fall at the places of a weight: no round has that weight as its heaviest.
-use Rattle.std.proofs.Common.{◌≡◌, ℕ, ◌+◌, ◌*◌, ◌<◌, ◌≤◌, Bool, true, false, cond, T, eqb, ltb, leb, ◌⊎◌, ◌↔◌, List, [], ◌∷◌, length, get_or, sym, refl, ap, ◌∙◌, subst, inl, inr, arith, ltb→lt, leb→le}
+use Rattle.std.proofs.Common.{◌≡◌, ℕ, ◌+◌, ◌<◌, ◌≤◌, Bool, true, false, cond, eqb, ltb, leb, ◌⊎◌, List, length, get_or, sym, ap, ◌∙◌, subst, inl, inr, arith, ltb→lt, leb→le}
 use Rattle.std.proofs.lemmas.Bool.{cases_eq, eq-eqb}
 use Rattle.endless.specs.Games.{Game, whose, weight, Among, May}
 use Rattle.endless.specs.Says.{Round, last, then1, goes}
@@ -8,8 +8,8 @@ use Rattle.endless.specs.Bits.{members, Least, NoneFrom}
 use Rattle.endless.specs.Graph.{moves}
 use Rattle.endless.specs.View.{Shows}
 use Rattle.endless.specs.declared.graph.Places.{Places}
-use Rattle.endless.specs.Flaws.{Step, Walk, Follows, FallsAt}
-use Rattle.endless.proofs.Tests.{true_T, T_true}
+use Rattle.endless.specs.Flaws.{Walk, Follows, FallsAt}
+use Rattle.endless.proofs.Tests.{true_T}
 use Rattle.endless.proofs.Among.{among_at}
 use Rattle.endless.proofs.Gathering.{before}
 

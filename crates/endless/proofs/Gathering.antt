@@ -5,7 +5,6 @@ use Rattle.std.proofs.lemmas.Bool.{cases_eq, cases_lt, both_ways}
 use Rattle.endless.specs.Games.{Game, weight}
 use Rattle.endless.specs.Says.{side, goes}
 use Rattle.endless.specs.Sets.{Set, In, Out, Within, having}
-use Rattle.endless.specs.Subgames.{Subgame}
 use Rattle.endless.specs.Bits.{members, size, Removed, Least, NoneFrom}
 use Rattle.endless.specs.View.{Shows}
 use Rattle.endless.specs.declared.graph.Places.{Places}

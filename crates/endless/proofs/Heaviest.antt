@@ -1,5 +1,5 @@
 -- That 'not lost' says something: it cannot be denied that a play has a heaviest weight, and by a plan that wins that is of the side's kind.
-use Rattle.std.proofs.Common.{◌≡◌, ℕ, zero, suc, ◌<◌, ◌≤◌, max, T, arith}
+use Rattle.std.proofs.Common.{ℕ, zero, suc, ◌<◌, ◌≤◌, max, T, arith}
 use Rattle.endless.specs.Games.{Game, Play, weight}
 use Rattle.endless.specs.Says.{WeaklyHeaviest, SomeHeaviest, PlanWins}
 use Rattle.endless.proofs.Places.{weight_below}

@@ -1,7 +1,7 @@
 -- The recursion over weights: from what its steps do to what they mean, and the room for the level below.
-use Rattle.std.proofs.Common.{◌≡◌, ℕ, suc, ◌+◌, ◌-◌, ◌*◌, ◌%◌, ◌<◌, ◌≤◌, true, false, eqb, ltb, ◌⊎◌, List, length, get_or, sym, refl, ap, ◌∙◌, subst, inl, inr, mul-le-mul_right, add-mul, arith}
+use Rattle.std.proofs.Common.{◌≡◌, ℕ, ◌+◌, ◌-◌, ◌*◌, ◌%◌, ◌<◌, ◌≤◌, true, eqb, ◌⊎◌, List, length, sym, refl, ap, ◌∙◌, subst, inl, inr, mul-le-mul_right, add-mul, arith}
 use Rattle.std.proofs.lemmas.Bool.{cases_eq, both_ways, lt-ltb, eq-eqb}
-use Rattle.endless.specs.Games.{Game, Reads, weight, May}
+use Rattle.endless.specs.Games.{Game, weight, May}
 use Rattle.endless.specs.Says.{side, goes}
 use Rattle.endless.specs.Sets.{Set, In, Out, Within, minus, having}
 use Rattle.endless.specs.Subgames.{Subgame, Closed, Solves}
@@ -9,7 +9,7 @@ use Rattle.endless.specs.Bits.{members, count, size}
 use Rattle.endless.specs.Weights.{weighing, occurs}
 use Rattle.endless.specs.View.{Graphs}
 use Rattle.endless.specs.declared.graph.Graph.{Graph}
-use Rattle.endless.specs.Pulling.{Unchanged, Moved, Sized, Starts, Attracts}
+use Rattle.endless.specs.Pulling.{Unchanged, Moved, Starts, Attracts}
 use Rattle.endless.specs.Levels.{HeaviestIn, Gathered, GatheredIn, Brought, Peeled, Peels, Reduces, levels, Room}
 use Rattle.endless.proofs.Tests.{T_true, true_T}
 use Rattle.endless.proofs.Sets.{in_or_out, minus_out, having_in, having_within}

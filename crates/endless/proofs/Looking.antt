@@ -1,5 +1,5 @@
 -- Going through the places that may move to one.
-use Rattle.std.proofs.Common.{◌≡◌, ℕ, ◌+◌, ◌*◌, ◌<◌, ◌≤◌, List, [], ◌∷◌, length, get_or, drop, sym, refl, ap, ◌∙◌, subst, arith}
+use Rattle.std.proofs.Common.{◌≡◌, ℕ, ◌+◌, ◌*◌, ◌<◌, ◌≤◌, List, length, get_or, drop, sym, subst}
 use Rattle.std.proofs.lemmas.List.{drop_more, drop_all}
 use Rattle.endless.specs.Games.{Game, Among, May}
 use Rattle.endless.specs.Sets.{Set, In, Out}
@@ -7,7 +7,7 @@ use Rattle.endless.specs.Bits.{members, size}
 use Rattle.endless.specs.Graph.{sources}
 use Rattle.endless.specs.View.{Graphs}
 use Rattle.endless.specs.declared.graph.Graph.{Graph}
-use Rattle.endless.specs.Pulling.{Working, Pulled, Sized, Moved, Looked}
+use Rattle.endless.specs.Pulling.{Working, Pulled, Moved, Looked}
 use Rattle.endless.proofs.Places.{from_place}
 use Rattle.endless.proofs.Among.{at_among}
 use Rattle.endless.proofs.Sources.{preds_may}

@@ -1,17 +1,15 @@
 -- Rounds that the other side wins: each has a heaviest place, from which it can be gone round.
-use Rattle.std.proofs.Common.{◌≡◌, ℕ, ◌+◌, ◌*◌, ◌%◌, ◌<◌, ◌≤◌, max, ◌⊎◌, List, [], ◌∷◌, ◌++◌, length, sym, refl, ap, ◌∙◌, subst, inl, inr, arith}
+use Rattle.std.proofs.Common.{◌≡◌, ℕ, ◌+◌, ◌%◌, ◌<◌, ◌≤◌, max, ◌⊎◌, List, [], ◌∷◌, sym, refl, ap, ◌∙◌, subst, inl, inr, arith}
 use Rattle.std.proofs.lemmas.Bool.{cases_eq, cases_lt}
-use Rattle.endless.specs.Games.{Game, Reads, whose, weight, Among, first, later, May, other}
+use Rattle.endless.specs.Games.{Game, whose, weight, Among, first, later, May}
 use Rattle.endless.specs.Says.{Round, last, then1, heaviest, goes}
-use Rattle.endless.specs.Sets.{Set, In, Out, Each}
+use Rattle.endless.specs.Sets.{Set, In, Each}
 use Rattle.endless.specs.Bits.{members, Least, NoneFrom}
 use Rattle.endless.specs.View.{Graphs}
 use Rattle.endless.specs.declared.graph.Graph.{Graph}
 use Rattle.endless.specs.Flaws.{Walk, NoRoundOf, RoundOf, RoundsWon, LosesRound}
-use Rattle.endless.proofs.Tests.{T_true, true_T}
 use Rattle.endless.proofs.Places.{is_other, weight_below}
 use Rattle.endless.proofs.Sets.{each_map, each_both, each_at, among_weighs, each_weighs}
-use Rattle.endless.proofs.SetLaws.{members_below}
 use Rattle.endless.proofs.Gathering.{before}
 
 module _ (g : Game) (w : ℕ) (plan : ℕ → ℕ) (P : ℕ → Type 0) where

@@ -1,5 +1,5 @@
 -- Going through a list of places: the heaviest so far, and those that go to the queue.
-use Rattle.std.proofs.Common.{◌≡◌, ℕ, ◌+◌, ◌*◌, ◌<◌, ◌≤◌, max, ◌⊎◌, ◌↔◌, List, length, get_or, set, sym, refl, ap, ◌∙◌, subst, inl, inr, arith}
+use Rattle.std.proofs.Common.{◌≡◌, ℕ, ◌+◌, ◌*◌, ◌<◌, ◌≤◌, max, ◌⊎◌, List, length, get_or, set, sym, refl, ap, ◌∙◌, subst, inl, inr, arith}
 use Rattle.std.proofs.lemmas.List.{get_or-set_same, get_or-set_other}
 use Rattle.std.proofs.lemmas.Bool.{cases_eq, cases_lt}
 use Rattle.endless.specs.Games.{Game, weight}
@@ -10,7 +10,7 @@ use Rattle.endless.specs.View.{Shows}
 use Rattle.endless.specs.declared.graph.Places.{Places}
 use Rattle.endless.specs.Pulling.{Passed, Unchanged, Starts}
 use Rattle.endless.specs.Levels.{HeaviestIn, HeaviestOf, GatheredIn, Stays, Taken, TakenIf}
-use Rattle.endless.specs.Parts.{Told, Part, PickedIf}
+use Rattle.endless.specs.Parts.{Told, PickedIf}
 use Rattle.endless.proofs.Tests.{T_true}
 use Rattle.endless.proofs.Sets.{having_in, having_within, having_is}
 use Rattle.endless.proofs.Gathering.{given_same, given_length, given_side, given_stays}

@@ -4,7 +4,7 @@ use Rattle.std.proofs.lemmas.Bool.{cases_eq}
 use Rattle.endless.specs.Games.{Game, whose, Among, first, later, May}
 use Rattle.endless.specs.Sets.{Set, In, Out, Within, minus}
 use Rattle.endless.specs.Subgames.{Subgame}
-use Rattle.endless.specs.Attractors.{Attractor, Attracting}
+use Rattle.endless.specs.Attractors.{Attractor}
 use Rattle.endless.specs.Pulling.{Pulling}
 use Rattle.endless.proofs.Sets.{in_or_out, minus_in, minus_within, minus_out}
 use Rattle.endless.proofs.Attracting.{Comes, Stays, rank+, added, finished}

@@ -1,5 +1,5 @@
 -- Words read one place at a time: what a place's words are, what is left behind them, and what a whole game is made of.
-use Rattle.std.proofs.Common.{◌≡◌, ℕ, zero, suc, ◌+◌, ◌-◌, ◌<◌, ◌≤◌, Bool, true, false, ◌&&◌, T, ltb, leb, List, [], ◌∷◌, ◌++◌, length, get_or, take, drop, sym, refl, ap, ◌∙◌, subst, arith, le→leb}
+use Rattle.std.proofs.Common.{◌≡◌, ℕ, ◌+◌, ◌-◌, ◌<◌, ◌≤◌, Bool, true, false, ◌&&◌, T, List, [], ◌∷◌, ◌++◌, length, get_or, take, drop, sym, refl, ap, ◌∙◌, subst, arith, le→leb}
 use Rattle.std.proofs.lemmas.List.{drop_more, drop-drop, drop_all, at_drop_more, append-nil, append_assoc, length-append, take_at, drop_at, take-append-drop, length-take-le, length-drop, take_rest}
 use Rattle.std.proofs.lemmas.Bool.{lt-ltb, le-ltb, both_ways}
 use Rattle.endless.specs.Games.{Place, Game, Reads, below, ok_ps, row}

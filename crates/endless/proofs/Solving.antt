@@ -1,15 +1,14 @@
 -- What `solve` promises, for each of its answers.
-use Rattle.std.proofs.Common.{◌≡◌, ℕ, ◌+◌, ◌-◌, ◌*◌, ◌/◌, ◌%◌, ◌<◌, ◌≤◌, Bool, T, ◌⊎◌, ◌↔◌, List, length, get_or, drop, sym, refl, ap, ◌∙◌, subst, inl, inr, arith}
+use Rattle.std.proofs.Common.{◌≡◌, ℕ, ◌+◌, ◌-◌, ◌*◌, ◌/◌, ◌%◌, ◌<◌, ◌≤◌, ◌⊎◌, List, length, get_or, drop, sym, refl, ap, ◌∙◌, subst, inl, inr, arith}
 use Rattle.std.proofs.lemmas.List.{ext_get_or, get_or-drop, length-drop}
 use Rattle.std.proofs.lemmas.Bool.{cases_eq}
-use Rattle.endless.specs.declared.Solved.{Solved}
 use Rattle.endless.specs.declared.Solved.TheVariants.{Done, OutFull, NoGame, Few}
 use Rattle.endless.specs.Games.{Game, Reads}
-use Rattle.endless.specs.Says.{WinsFrom, side, goes}
+use Rattle.endless.specs.Says.{side, goes}
 use Rattle.endless.specs.Sets.{whole}
 use Rattle.endless.specs.Subgames.{Solves}
 use Rattle.endless.specs.Pulling.{Unchanged}
-use Rattle.endless.specs.Promises.{Only, SolvedPost}
+use Rattle.endless.specs.Promises.{SolvedPost}
 use Rattle.endless.proofs.Sets.{whole_in}
 use Rattle.endless.proofs.Steps.{solves_wins}
 use Rattle.endless.proofs.Only.{only_answer}

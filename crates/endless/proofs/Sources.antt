@@ -1,6 +1,5 @@
 -- How often a place stands among moves, how many moves lead to it, and which places have them.
 use Rattle.std.proofs.Common.{◌≡◌, ℕ, zero, suc, ◌+◌, ◌*◌, ◌<◌, ◌≤◌, ◌&&◌, T, eqb, ltb, ◌⊎◌, ◌↔◌, List, [], ◌∷◌, ◌++◌, length, get_or, take, drop, replicate, sym, refl, ap, ◌∙◌, subst, ap₂, inl, inr, add_assoc, zero-add, add-one, arith, ltb→lt}
-use mathlib.Core.Option.{none}
 use Rattle.std.proofs.lemmas.List.{take_more, take-append-drop, length-append, length-replicate}
 use Rattle.std.proofs.lemmas.Bool.{cases_eq, eq-eqb, ne_eqb}
 use Rattle.endless.specs.Games.{Place, Game, Among, first, later, opt, ok_ps, below, some_of, May}

@@ -1,12 +1,11 @@
 -- A search back from a place: its state over one step, over the places that may move to one, and over the queue.
-use Rattle.std.proofs.Common.{◌≡◌, ℕ, ◌+◌, ◌*◌, ◌<◌, ◌≤◌, ◌⊎◌, List, [], ◌∷◌, length, get_or, drop, set, sym, refl, ap, ◌∙◌, subst, inl, inr, arith}
+use Rattle.std.proofs.Common.{◌≡◌, ℕ, ◌+◌, ◌<◌, ◌≤◌, ◌⊎◌, List, [], ◌∷◌, length, get_or, drop, sym, refl, ap, ◌∙◌, subst, inl, inr, arith}
 use Rattle.std.proofs.lemmas.List.{drop_more, drop_all, get_or-set_same, get_or-set_other}
 use Rattle.std.proofs.lemmas.Bool.{cases_eq, cases_lt}
 use Rattle.endless.specs.Games.{Game, whose, weight, Among, first, later, May}
 use Rattle.endless.specs.Says.{Round, last, then1, goes}
-use Rattle.endless.specs.Sets.{Set, In, Out, Within, Each}
-use Rattle.endless.specs.Bits.{members, size, Removed}
-use Rattle.endless.specs.Graph.{sources}
+use Rattle.endless.specs.Sets.{Set, In, Out, Each}
+use Rattle.endless.specs.Bits.{members, size}
 use Rattle.endless.specs.View.{Shows, Graphs}
 use Rattle.endless.specs.declared.graph.Places.{Places}
 use Rattle.endless.specs.declared.graph.Graph.{Graph}

@@ -1,15 +1,13 @@
 -- One turn of the recursion: what is won in a part of a subgame, and what is left when it is peeled off.
-use Rattle.std.proofs.Common.{◌≡◌, ℕ, ◌%◌, ◌<◌, ◌≤◌, ◌⊎◌, List, length, sym, refl, ap, ◌∙◌, subst, inl, inr, arith}
-use Rattle.std.proofs.lemmas.Bool.{cases_eq}
+use Rattle.std.proofs.Common.{◌≡◌, ℕ, ◌%◌, ◌<◌, ◌⊎◌, List, length, sym, refl, ◌∙◌, subst, inl, inr, arith}
 use Rattle.endless.specs.Games.{Game, Reads, whose, weight, May}
 use Rattle.endless.specs.Says.{side, goes}
 use Rattle.endless.specs.Sets.{Set, In, Out, Within, minus, having}
 use Rattle.endless.specs.Subgames.{Subgame, Closed, Holds, Solves}
-use Rattle.endless.specs.Attractors.{Attractor}
 use Rattle.endless.specs.Pulling.{Unchanged}
 use Rattle.endless.specs.Levels.{HeaviestIn, Brought, Peeled, Peels, Reduces}
 use Rattle.endless.proofs.Sets.{in_or_out, minus_in, minus_within, minus_out, having_in, having_within, having_is}
-use Rattle.endless.proofs.Steps.{else_is, rest_subgame, subgame_as, holds_as, holds_plan, won_outside, closed_won, attract_won, all_won, solves_as, solves_all, peel}
+use Rattle.endless.proofs.Steps.{else_is, rest_subgame, subgame_as, holds_as, holds_plan, won_outside, closed_won, attract_won, all_won, peel}
 use Rattle.endless.proofs.Within.{first_of}
 use Rattle.endless.proofs.Working.{unchanged_goes, same_side}
 

@@ -1,9 +1,9 @@
 -- The state of an attractor's work over one step: a place is looked at, and stays or comes.
-use Rattle.std.proofs.Common.{◌≡◌, ℕ, suc, ◌+◌, ◌*◌, ◌<◌, ◌≤◌, Bool, true, false, not, ◌&&◌, T, eqb, ◌⊎◌, List, [], ◌∷◌, length, get_or, set, sym, refl, ap, ◌∙◌, subst, inl, inr, arith}
+use Rattle.std.proofs.Common.{◌≡◌, ℕ, ◌+◌, ◌*◌, ◌<◌, ◌≤◌, Bool, not, ◌&&◌, T, ◌⊎◌, List, [], ◌∷◌, length, get_or, set, sym, refl, ap, ◌∙◌, subst, inl, inr, arith}
 use mathlib.Core.Option.{Option}
 use Rattle.std.proofs.lemmas.List.{get_or-set_same, get_or-set_other, get_or_past, length-set}
 use Rattle.std.proofs.lemmas.Bool.{cases_eq, cases_lt, eq-eqb, ne_eqb, both_ways}
-use Rattle.endless.specs.Games.{nth, opt, Game, Reads, whose, Among, May}
+use Rattle.endless.specs.Games.{nth, opt, Game, whose, Among, May}
 use Rattle.endless.specs.Says.{side, goes}
 use Rattle.endless.specs.Sets.{Set, In, Out, Within, minus}
 use Rattle.endless.specs.Subgames.{Subgame}
@@ -11,9 +11,9 @@ use Rattle.endless.specs.Bits.{members, size, Removed}
 use Rattle.endless.specs.View.{Graphs}
 use Rattle.endless.specs.declared.graph.Graph.{Graph}
 use Rattle.endless.specs.Pulling.{Pulling, Passed, Working, Stayed, Came, Pulled, Unchanged, Moved, Starts, Attracts}
-use Rattle.endless.proofs.Tests.{T_true, true_T}
+use Rattle.endless.proofs.Tests.{T_true}
 use Rattle.endless.proofs.Nth.{nth_in, nth_out}
-use Rattle.endless.proofs.Sets.{in_or_out, minus_in, minus_out}
+use Rattle.endless.proofs.Sets.{minus_in, minus_out}
 use Rattle.endless.proofs.SetLaws.{size_none}
 use Rattle.endless.proofs.Attracting.{Comes}
 use Rattle.endless.proofs.Pulling.{pulling_none, pulling_next, pulling_all, pulling_as, pulling_skip, pulling_stays, pulling_comes}

@@ -1,5 +1,5 @@
 -- Games on places, plays without end.
-use Rattle.std.specs.Prelude.{◌≡◌, ℕ, zero, suc, ◌+◌, ◌%◌, ◌<◌, ◌≤◌, Bool, true, false, not, ◌&&◌, ◌||◌, T, List, [], ◌∷◌, ◌++◌, length, nat_le, nat_lt}
+use Rattle.std.specs.Prelude.{◌≡◌, ℕ, zero, suc, ◌%◌, ◌≤◌, Bool, true, false, ◌&&◌, T, List, [], ◌∷◌, ◌++◌, length, nat_le, nat_lt}
 use Rattle.std.proofs.Math.Option.{Option, some, none}
 
 abbrev pub pick : {A : Type 0} → Bool → A → A → A

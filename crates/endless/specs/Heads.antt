@@ -1,5 +1,5 @@
 -- The words before a place's moves.
-use Rattle.std.specs.Prelude.{◌≡◌, ℕ, ◌<◌, ◌≤◌, List, [], ◌∷◌, Some, None, Option}
+use Rattle.std.specs.Prelude.{◌≡◌, ℕ, ◌<◌, ◌≤◌, List, ◌∷◌, Some, None, Option}
 use Rattle.endless.specs.Sides.{number}
 use Rattle.endless.specs.declared.place.Head.{Head}
 

@@ -1,5 +1,5 @@
 -- The recursion over weights: what its steps do.
-use Rattle.std.specs.Prelude.{◌≡◌, ℕ, ◌+◌, ◌*◌, ◌^◌, ◌<◌, ◌≤◌, ◌⊎◌, List, length, set, ◌≢◌, slice_index, slice_set}
+use Rattle.std.specs.Prelude.{◌≡◌, ℕ, ◌+◌, ◌*◌, ◌^◌, ◌<◌, ◌≤◌, ◌⊎◌, List, length, ◌≢◌, slice_index, slice_set}
 use Rattle.endless.specs.Games.{Game, weight, May}
 use Rattle.endless.specs.Says.{side, goes}
 use Rattle.endless.specs.Sets.{Set, In, Out, Within, minus, having}

@@ -1,5 +1,5 @@
 -- A closed part of a subgame: all that can be come to from a place.
-use Rattle.std.specs.Prelude.{◌≡◌, ℕ, ◌+◌, ◌<◌, ◌≤◌, ◌⊎◌, ◌↔◌, List, length, set, Some, None, Option, ◌≢◌, slice_index, slice_set}
+use Rattle.std.specs.Prelude.{◌≡◌, ℕ, ◌+◌, ◌<◌, ◌≤◌, ◌⊎◌, ◌↔◌, List, length, Some, None, Option, ◌≢◌, slice_index, slice_set}
 use Rattle.endless.specs.Games.{Game}
 use Rattle.endless.specs.Says.{side}
 use Rattle.endless.specs.Sets.{Set, In, Within}

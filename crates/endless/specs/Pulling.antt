@@ -1,5 +1,5 @@
 -- An attractor made by going through a queue of places and, at each, through the places that may move to it.
-use Rattle.std.specs.Prelude.{◌≡◌, ℕ, ◌+◌, ◌*◌, ◌<◌, ◌≤◌, Bool, true, false, ◌⊎◌, List, [], ◌∷◌, length, set, ◌≢◌, slice_index, slice_set}
+use Rattle.std.specs.Prelude.{◌≡◌, ℕ, ◌+◌, ◌*◌, ◌<◌, ◌≤◌, Bool, true, false, ◌⊎◌, List, [], length, ◌≢◌, slice_index, slice_set}
 use Rattle.endless.specs.Games.{Game, whose, Among, May}
 use Rattle.endless.specs.Says.{side, goes}
 use Rattle.endless.specs.Sets.{Set, In, Out, Within, minus}

@@ -1,7 +1,6 @@
 -- The theorems about games, as types, and what the public calls promise.
-use Rattle.std.specs.Prelude.{◌≡◌, ℕ, zero, suc, ◌+◌, ◌*◌, ◌<◌, ◌≤◌, Bool, true, false, T, ◌⊎◌, ◌↔◌, List, [], ◌∷◌, ◌++◌, length, ◌≢◌}
-use Rattle.std.proofs.Math.Option.{Option, some, none}
-use Rattle.endless.specs.Games.{nth, opt, Place, Game, Reads, whose, weight, Among, May, Play, Plays, ByPlan, Heaviest, Wins, other}
+use Rattle.std.specs.Prelude.{◌≡◌, ℕ, ◌+◌, ◌*◌, ◌<◌, ◌≤◌, Bool, T, ◌↔◌, List, [], ◌∷◌, length, ◌≢◌}
+use Rattle.endless.specs.Games.{nth, opt, Game, Reads, whose, weight, May, Play, Plays, ByPlan, Heaviest, Wins, other}
 
 -- a plan wins for a side from some places: it may be gone by, it stays where the side wins, and the other side wins no play by it
 pub record WinsFrom (g : Game) (w : ℕ) (plan : ℕ → ℕ) (won : ℕ → Type 0) : Type 0 where

@@ -1,5 +1,5 @@
 -- Reading words one place at a time.
-use Rattle.std.specs.Prelude.{◌≡◌, ℕ, ◌<◌, ◌≤◌, T, List, [], ◌∷◌, ◌++◌, length, drop, Some, None, Option}
+use Rattle.std.specs.Prelude.{◌≡◌, ℕ, ◌≤◌, T, List, [], ◌∷◌, ◌++◌, length, drop, Some, None, Option}
 use Rattle.endless.specs.Games.{Place, ok_ps, row}
 
 -- how many places the first word says: 1 to 16,384

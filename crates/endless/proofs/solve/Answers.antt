@@ -1,4 +1,4 @@
-use Rattle.std.proofs.Common.{◌≡◌, length, sym, arith}
+use Rattle.std.proofs.Common.{length, sym, arith}
 use Rattle.std.proofs.lemmas.Bool.{leb-true, leb-false}
 use Rattle.endless.proofs.Reading.{places_are}
 use Rattle.endless.proofs.Solving.{few_post, no_game_post, out_full_post, done_post}

@@ -1,4 +1,4 @@
-use Rattle.std.proofs.Common.{ℕ, ◌+◌, ◌*◌, ap, ◌∙◌, arith, rules}
+use Rattle.std.proofs.Common.{◌+◌, ◌*◌, ap, ◌∙◌, arith, rules}
 use mathlib.Core.Option.{some}
 use Rattle.endless.proofs.Nth.{nth_in}
 use Rattle.endless.proofs.answer.goes_to.Goals as goal

@@ -1,5 +1,5 @@
 use Rattle.std.proofs.Common.{◌≡◌, ℕ, ◌*◌, ◌<◌, List, length, get_or, sym, ap, ◌∙◌, subst, arith}
-use mathlib.Core.Option.{Option, some}
+use mathlib.Core.Option.{Option}
 use Rattle.endless.specs.Games.{nth, opt}
 use Rattle.endless.specs.Says.{side}
 use Rattle.endless.specs.Answers.{WinnerIs}

@@ -1,4 +1,4 @@
-use Rattle.std.proofs.Common.{ℕ, ◌+◌, ap, arith}
+use Rattle.std.proofs.Common.{ℕ, ◌+◌, ap}
 use Rattle.endless.proofs.attractor.attract.Goals as goal
 
 pub attract_counted-requires : goal.attract_counted-requires

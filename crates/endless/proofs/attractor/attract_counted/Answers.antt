@@ -1,5 +1,4 @@
-use Rattle.std.proofs.Common.{◌≡◌, ℕ, ◌+◌, ◌≤◌, length, sym, refl, ap, inl, inr, arith}
-use Rattle.endless.specs.Bits.{size}
+use Rattle.std.proofs.Common.{◌+◌, length, refl, inl, inr, arith}
 use Rattle.endless.specs.Sides.{number}
 use Rattle.endless.proofs.Queueing.{queueing_none, queueing_more, queueing_all, queue_inside}
 use Rattle.endless.proofs.attractor.attract_counted.Goals as goal

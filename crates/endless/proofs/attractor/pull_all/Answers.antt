@@ -1,7 +1,7 @@
-use Rattle.std.proofs.Common.{◌+◌, ◌*◌, ◌<◌, length, get_or, arith}
+use Rattle.std.proofs.Common.{arith}
 use Rattle.endless.specs.Sides.{number}
 use Rattle.endless.proofs.Places.{from_place}
-use Rattle.endless.proofs.Looking.{Lists, may_at, looking_none, looking_more, looking_all}
+use Rattle.endless.proofs.Looking.{may_at, looking_none, looking_more, looking_all}
 use Rattle.endless.proofs.attractor.pull_all.Goals as goal
 
 pub loop-from-init : goal.loop-from-init

@@ -1,11 +1,11 @@
-use Rattle.std.proofs.Common.{◌≡◌, ℕ, ◌%◌, ◌<◌, List, length, sym, refl, ◌∙◌, subst, arith}
-use Rattle.endless.specs.Games.{Game, other}
+use Rattle.std.proofs.Common.{ℕ, ◌%◌, ◌<◌, List, sym, refl, ◌∙◌, subst, arith}
+use Rattle.endless.specs.Games.{other}
 use Rattle.endless.specs.Says.{side, goes}
-use Rattle.endless.specs.Subgames.{Subgame, Solves}
+use Rattle.endless.specs.Subgames.{Solves}
 use Rattle.endless.specs.Bits.{members, size}
 use Rattle.endless.specs.Sides.{number}
 use Rattle.endless.specs.Pulling.{Unchanged}
-use Rattle.endless.specs.Levels.{Room, Peels}
+use Rattle.endless.specs.Levels.{Peels}
 use Rattle.endless.proofs.Readers.{number_below}
 use Rattle.endless.proofs.Places.{other_below, not_other}
 use Rattle.endless.proofs.Tests.{T_true}

@@ -1,4 +1,4 @@
-use Rattle.std.proofs.Common.{◌≡◌, length}
+use Rattle.std.proofs.Common.{◌≡◌}
 use Rattle.endless.specs.Bits.{size}
 use Rattle.endless.proofs.Levels.{Leveling}
 use Rattle.endless.proofs.by_parts.+level_by_parts.Given as goal

@@ -1,5 +1,4 @@
 use Rattle.std.proofs.Common.{ℕ, List, length, sym, ap, ◌∙◌, subst, arith}
-use Rattle.endless.specs.Games.{Game}
 use Rattle.endless.specs.Sets.{In, Out}
 use Rattle.endless.specs.Sides.{number}
 use Rattle.endless.specs.Bits.{members, size}

@@ -1,4 +1,4 @@
-use Rattle.std.proofs.Common.{sym, refl, ◌∙◌, inl, inr, arith}
+use Rattle.std.proofs.Common.{sym, refl, inl, inr, arith}
 use Rattle.std.proofs.lemmas.Bool.{both_ways, eqb-true, eqb-false}
 use Rattle.endless.proofs.Tests.{T_true, true_T}
 use Rattle.endless.proofs.SetLaws.{some_size}

@@ -1,6 +1,6 @@
 use Rattle.std.proofs.Common.{◌<◌, length, get_or, ◌∙◌, ap₂, arith}
 use Rattle.endless.specs.Games.{Game}
-use Rattle.endless.specs.Graph.{positions, moves, Placed}
+use Rattle.endless.specs.Graph.{positions, Placed}
 use Rattle.endless.proofs.PositionLaws.{positions_none}
 use Rattle.endless.proofs.Reading.{places_are}
 use Rattle.endless.proofs.Preds.{counting_start, targets_within, counting_fits, counting_more, counting_all}

@@ -1,6 +1,6 @@
 use Rattle.std.proofs.Common.{◌-◌, ◌<◌, length, drop, arith}
 use Rattle.endless.specs.Games.{Game}
-use Rattle.endless.specs.Graph.{positions, moves, entering, sources, Placed}
+use Rattle.endless.specs.Graph.{positions, entering, sources, Placed}
 use Rattle.endless.proofs.PositionLaws.{positions_length}
 use Rattle.endless.proofs.Preds.{listing_start, listing_room, listing_more, listing_all}
 use Rattle.endless.proofs.graph.list_sources.Goals as goal

@@ -1,14 +1,12 @@
-use Rattle.std.proofs.Common.{◌≡◌, ℕ, ◌<◌, List, length, sym, refl, subst, arith}
+use Rattle.std.proofs.Common.{ℕ, ◌<◌, List, sym, refl, subst, arith}
 use Rattle.std.proofs.lemmas.Bool.{eqb-false, eqb-true}
-use Rattle.endless.specs.Games.{Game}
 use Rattle.endless.specs.Says.{side, goes}
-use Rattle.endless.specs.Subgames.{Subgame, Solves}
+use Rattle.endless.specs.Subgames.{Solves}
 use Rattle.endless.specs.Bits.{members, size}
 use Rattle.endless.specs.Sides.{number}
 use Rattle.endless.specs.Pulling.{Unchanged}
-use Rattle.endless.specs.Levels.{Room}
 use Rattle.endless.proofs.Readers.{number_below}
-use Rattle.endless.proofs.Places.{other_below, not_other}
+use Rattle.endless.proofs.Places.{not_other}
 use Rattle.endless.proofs.Turns.{closed_whole}
 use Rattle.endless.proofs.Levels.{room_now, room_set, room_light, room_below, leveling_more, leveling_all, solves_none}
 use Rattle.endless.proofs.level.+level.Goals as goal

@@ -1,4 +1,3 @@
-use Rattle.std.proofs.Common.{◌≡◌, length}
 use Rattle.endless.specs.Bits.{size}
 use Rattle.endless.proofs.Levels.{Leveling}
 use Rattle.endless.proofs.level.+level.Given as goal

@@ -1,4 +1,4 @@
-use Rattle.std.proofs.Common.{ℕ, refl, subst, inl, inr, arith}
+use Rattle.std.proofs.Common.{ℕ, refl, subst, inr, arith}
 use Rattle.std.proofs.lemmas.Bool.{both_ways}
 use Rattle.endless.specs.Bits.{members}
 use Rattle.endless.specs.Says.{side}

@@ -1,4 +1,4 @@
-use Rattle.std.proofs.Common.{ℕ, ◌-◌, ◌*◌, ◌≤◌, length}
+use Rattle.std.proofs.Common.{◌-◌, ◌*◌, ◌≤◌, length}
 use Rattle.endless.specs.Sides.{number}
 use Rattle.endless.proofs.Looks.{Stayed}
 use Rattle.endless.proofs.look.look.Given as goal

@@ -1,4 +1,4 @@
-use Rattle.std.proofs.Common.{ℕ, ◌-◌, ◌*◌, ◌≤◌, length}
+use Rattle.std.proofs.Common.{◌-◌, ◌*◌, ◌≤◌, length}
 use Rattle.endless.specs.Sides.{number}
 use Rattle.endless.proofs.Losing.{SearchedTo}
 use Rattle.endless.proofs.losing_rounds.search_each.Given as goal

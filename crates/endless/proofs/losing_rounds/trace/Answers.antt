@@ -1,4 +1,4 @@
-use Rattle.std.proofs.Common.{◌+◌, length, get_or, refl, arith}
+use Rattle.std.proofs.Common.{length, refl, arith}
 use Rattle.endless.specs.Sides.{number}
 use Rattle.endless.proofs.Gathering.{in_every}
 use Rattle.endless.proofs.Tracing.{queued_none, queued_inside, queued_more, tracing_all}

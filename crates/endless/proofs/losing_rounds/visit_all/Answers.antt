@@ -1,4 +1,4 @@
-use Rattle.std.proofs.Common.{◌+◌, ◌*◌, ◌<◌, length, get_or, arith}
+use Rattle.std.proofs.Common.{arith}
 use Rattle.endless.specs.Sides.{number}
 use Rattle.endless.proofs.Places.{from_place}
 use Rattle.endless.proofs.Looking.{may_at}

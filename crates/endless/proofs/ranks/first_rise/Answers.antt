@@ -3,7 +3,7 @@ use Rattle.endless.specs.Sides.{number}
 use Rattle.endless.proofs.Tests.{true_T}
 use Rattle.endless.proofs.SetLaws.{members_below}
 use Rattle.endless.proofs.Gathering.{in_every}
-use Rattle.endless.proofs.Falling.{fallen_more, fallen_all}
+use Rattle.endless.proofs.Falling.{fallen_more}
 use Rattle.endless.proofs.ranks.first_rise.Goals as goal
 use Rattle.endless.proofs.ranks.first_rise.Goals.{then-head-heaviest+else-not-falls_at, else-head-heaviest}
 

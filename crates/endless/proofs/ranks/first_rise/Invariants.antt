@@ -1,4 +1,4 @@
-use Rattle.std.proofs.Common.{ℕ, ◌-◌, ◌*◌, ◌≤◌, length}
+use Rattle.std.proofs.Common.{◌-◌, ◌*◌, ◌≤◌, length}
 use Rattle.endless.specs.Sides.{number}
 use Rattle.endless.proofs.Falling.{Fallen}
 use Rattle.endless.proofs.ranks.first_rise.Given as goal

@@ -1,4 +1,4 @@
-use Rattle.std.proofs.Common.{◌≡◌, sym, ◌∙◌, arith}
+use Rattle.std.proofs.Common.{sym, ◌∙◌, arith}
 use Rattle.endless.proofs.Readers.{below_out, below_in, below_end}
 use Rattle.endless.proofs.words.all_below.Goals as goal
 

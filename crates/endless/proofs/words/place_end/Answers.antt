@@ -1,4 +1,4 @@
-use Rattle.std.proofs.Common.{◌≡◌, ℕ, List, [], ◌∷◌, ◌++◌, drop, Option, sym, ◌∙◌, subst, arith}
+use Rattle.std.proofs.Common.{drop, sym, ◌∙◌, subst, arith}
 use Rattle.std.proofs.lemmas.List.{take_rest}
 use Rattle.endless.specs.Words.{PlaceEnds}
 use Rattle.endless.proofs.Readers.{headless, place_found, place_missing}

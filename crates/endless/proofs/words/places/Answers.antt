@@ -1,4 +1,4 @@
-use Rattle.std.proofs.Common.{get_or, drop, rules}
+use Rattle.std.proofs.Common.{drop, rules}
 use Rattle.std.proofs.lemmas.List.{drop_more}
 use Rattle.endless.proofs.words.places.Goals as goal
 

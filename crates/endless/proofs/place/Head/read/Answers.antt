@@ -1,4 +1,4 @@
-use Rattle.std.proofs.Common.{◌≡◌, ◌∷◌, drop, ap, ◌∙◌, arith, rules}
+use Rattle.std.proofs.Common.{drop, rules}
 use Rattle.endless.proofs.Readers.{three_front}
 use Rattle.endless.proofs.place.Head.read.Goals as goal
 
