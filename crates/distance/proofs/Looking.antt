@@ -1,16 +1,14 @@
 -- One place is looked at, as the code does it: it stays, it waits, or it comes.
-use Rattle.std.proofs.Common.{◌≡◌, ℕ, ◌+◌, ◌-◌, ◌*◌, ◌<◌, ◌≤◌, Bool, true, false, eqb, ltb, ◌⊎◌, List, [], length, get_or, take, set, sym, refl, ap, ◌∙◌, subst, inl, inr, arith}
-use Rattle.std.proofs.lemmas.List.{get_or-set_same, get_or-set_other, length-set, take_all}
+use Rattle.std.proofs.Common.{◌≡◌, ℕ, ◌+◌, ◌-◌, ◌*◌, ◌<◌, ◌≤◌, Bool, true, false, eqb, ◌⊎◌, List, [], length, get_or, take, set, sym, refl, ap, ◌∙◌, subst, inl, inr, arith}
+use Rattle.std.proofs.lemmas.List.{get_or-set_same, get_or-set_other, take_all}
 use Rattle.std.proofs.lemmas.Bool.{cases_eq, ltb-true, ltb-false, both_ways}
 use Rattle.endless.specs.Games.{Game, Reads, whose, Among, May}
-use Rattle.endless.specs.Says.{goes}
 use Rattle.endless.specs.Graph.{moves, times, sources}
-use Rattle.endless.specs.Pulling.{Unchanged}
 use Rattle.endless.proofs.Among.{at_among}
 use Rattle.endless.proofs.Places.{from_place}
 use Rattle.endless.proofs.CountLaws.{one_if}
 use Rattle.endless.proofs.Sources.{times_more, times_here, preds_times, preds_may}
-use Rattle.endless.proofs.Working.{put_goes, put_else, put_unchanged}
+use Rattle.endless.proofs.Working.{put_goes, put_unchanged}
 use Rattle.distance.specs.Sooner.{never}
 use Rattle.distance.specs.Spreading.{number, Spread, Looks, Kept, Waited}
 use Rattle.distance.proofs.Spreads.{spread_room, spread_stays, spread_waits, all_in, spread_comes, comes_kept, spread_next}

@@ -1,11 +1,10 @@
 -- The loop over the places that may move to the one at the head of the queue, and the loop over the queue.
-use Rattle.std.proofs.Common.{◌≡◌, ℕ, ◌+◌, ◌*◌, ◌<◌, ◌≤◌, List, [], length, get_or, take, sym, refl, ap, ◌∙◌, subst, arith}
+use Rattle.std.proofs.Common.{◌≡◌, ℕ, ◌+◌, ◌<◌, ◌≤◌, List, [], length, get_or, take, sym, ap, ◌∙◌, subst, arith}
 use Rattle.endless.specs.Games.{Game}
 use Rattle.endless.specs.Graph.{sources}
 use Rattle.endless.specs.View.{Graphs}
 use Rattle.endless.specs.declared.graph.Graph.{Graph}
 use Rattle.distance.specs.Spreading.{number, Spread, Looks, Kept, Roomy}
-use Rattle.distance.proofs.Looking.{look_all}
 
 -- so many of them looked at: from every state at the start, the state now
 pub record Pulled (g : Game) (w target : ℕ) (before : List ℕ) (head to next i : ℕ) (out queue awaited : List ℕ) (filled tail : ℕ) : Type 0 where

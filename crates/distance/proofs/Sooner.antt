@@ -2,7 +2,7 @@
 use Rattle.std.proofs.Common.{◌≡◌, ℕ, zero, suc, ◌+◌, ◌<◌, ◌≤◌, Bool, cond, eqb, ◌⊎◌, List, [], ◌∷◌, length, sym, refl, ap, ◌∙◌, subst, inl, inr, arith}
 use Rattle.std.proofs.lemmas.Bool.{cases_eq, cases_lt, eq-eqb, ne_eqb}
 use Rattle.endless.specs.Games.{Game, Reads, whose, May, Play, Plays, ByPlan, other}
-use Rattle.endless.proofs.Places.{ok_size, side_below, from_place, to_place, is_other, not_other}
+use Rattle.endless.proofs.Places.{ok_size, side_below, from_place, to_place, is_other}
 use Rattle.distance.specs.Sooner.{never, so_far, Moving, ByWay, ComesWithin, NotSooner, Takes, KeptOff, Numbers}
 use Rattle.distance.specs.Spreading.{Measured}
 

@@ -1,10 +1,10 @@
 -- Numbers spread from the target: before the first, one place looked at, the next of the queue, after the last.
-use Rattle.std.proofs.Common.{◌≡◌, ℕ, zero, suc, ◌+◌, ◌*◌, ◌<◌, ◌≤◌, Bool, true, false, cond, ◌||◌, T, eqb, ltb, ◌⊎◌, List, [], ◌∷◌, length, get_or, set, sym, refl, ap, ◌∙◌, subst, inl, inr, arith}
+use Rattle.std.proofs.Common.{◌≡◌, ℕ, ◌+◌, ◌*◌, ◌<◌, ◌≤◌, Bool, true, false, cond, ◌||◌, T, eqb, ltb, ◌⊎◌, List, [], length, get_or, set, sym, refl, ap, ◌∙◌, subst, inl, inr, arith}
 use Rattle.std.proofs.lemmas.List.{get_or-set_same, get_or-set_other}
 use Rattle.std.proofs.lemmas.Bool.{cases_eq, cases_lt, cases_Bool, eq-eqb, ne_eqb, lt-ltb, le-ltb}
-use Rattle.endless.specs.Games.{Game, Reads, whose, Among, May}
+use Rattle.endless.specs.Games.{Game, Reads, whose, May}
 use Rattle.endless.specs.Says.{goes}
-use Rattle.endless.specs.Sets.{Set, In}
+use Rattle.endless.specs.Sets.{In}
 use Rattle.endless.specs.Graph.{moves, times}
 use Rattle.endless.specs.Pulling.{Passed, Unchanged}
 use Rattle.endless.proofs.Places.{ok_size, has_move, to_place}

@@ -1,6 +1,6 @@
 -- Numbers that spread from the target: the state of the work, and what it comes to.
-use Rattle.std.specs.Prelude.{◌≡◌, ℕ, ◌+◌, ◌-◌, ◌*◌, ◌<◌, ◌≤◌, Bool, false, cond, ◌⊎◌, List, [], ◌∷◌, length, set, ◌≢◌, nat_lt, slice_index, slice_index_or, slice_set}
-use Rattle.endless.specs.Games.{Game, Reads, whose, May}
+use Rattle.std.specs.Prelude.{◌≡◌, ℕ, ◌+◌, ◌-◌, ◌*◌, ◌<◌, ◌≤◌, Bool, false, cond, ◌⊎◌, List, [], ◌∷◌, length, ◌≢◌, nat_lt, slice_index, slice_index_or, slice_set}
+use Rattle.endless.specs.Games.{Game, whose, May}
 use Rattle.endless.specs.Says.{goes}
 use Rattle.endless.specs.Sets.{Set, In}
 use Rattle.endless.specs.Graph.{moves, times, sources}

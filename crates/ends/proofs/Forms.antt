@@ -1,5 +1,5 @@
 -- Words that are a game with ends, and the words of what is made of it.
-use Rattle.std.proofs.Common.{◌≡◌, ℕ, zero, suc, ◌+◌, ◌<◌, ◌≤◌, Bool, true, false, ◌&&◌, T, ltb, leb, List, [], ◌∷◌, ◌++◌, length, sym, refl, ap, ◌∙◌, subst, arith, le→leb, ltb→lt, lt→ltb, leb→le}
+use Rattle.std.proofs.Common.{◌≡◌, ℕ, zero, suc, ◌+◌, ◌<◌, ◌≤◌, Bool, true, false, ◌&&◌, T, ltb, leb, List, [], ◌∷◌, length, sym, refl, ap, subst, arith, le→leb, ltb→lt, lt→ltb, leb→le}
 use Rattle.endless.specs.Games.{Place, Game, Reads, below, ok_ps, some_of, pick, row, whose, weight, other}
 use Rattle.endless.proofs.Reading.{both}
 use Rattle.endless.proofs.Places.{Fine, ok_parts, ok_from, ok_size, other_below}

@@ -1,12 +1,12 @@
 -- What is made of a game with ends, place by place; and that the same plans win in both from the same places.
-use Rattle.std.proofs.Common.{◌≡◌, ℕ, zero, suc, ◌+◌, ◌-◌, ◌%◌, ◌<◌, ◌≤◌, Bool, true, false, ◌&&◌, ◌⊎◌, ◌↔◌, List, [], ◌∷◌, length, sym, refl, ap, ◌∙◌, subst, inl, inr, arith}
+use Rattle.std.proofs.Common.{◌≡◌, ℕ, zero, suc, ◌+◌, ◌-◌, ◌%◌, ◌<◌, Bool, true, false, ◌⊎◌, List, [], ◌∷◌, length, sym, refl, ap, ◌∙◌, subst, inl, inr, arith}
 use mathlib.Core.Option.{Option, some, none}
 use Rattle.std.proofs.lemmas.Bool.{cases_eq}
-use Rattle.endless.specs.Games.{Place, Game, nth, opt, pick, some_of, whose, weight, Among, first, later, May, Play, Plays, ByPlan, Heaviest, Wins, other}
+use Rattle.endless.specs.Games.{Place, Game, nth, opt, pick, some_of, whose, weight, Among, first, later, May, Play, Plays, ByPlan, Wins, other}
 use Rattle.endless.specs.Graph.{moves}
 use Rattle.endless.specs.Says.{WinsFrom}
-use Rattle.endless.proofs.Places.{from_place, is_other}
-use Rattle.ends.specs.Ends.{NoMoves, PlaysEnd, ByPlanEnd, last, WinsEnd, WinsFromEnds, mended, made_from, made}
+use Rattle.endless.proofs.Places.{is_other}
+use Rattle.ends.specs.Ends.{NoMoves, PlaysEnd, ByPlanEnd, WinsEnd, WinsFromEnds, mended, made_from, made}
 
 -- ---- the places of the made game
 

@@ -1,16 +1,15 @@
 -- Copying the words of a game with ends place by place: what is read so far and made of it, and what is left.
-use Rattle.std.proofs.Common.{◌≡◌, ℕ, zero, suc, ◌+◌, ◌-◌, ◌<◌, ◌≤◌, Bool, cond, ltb, List, [], ◌∷◌, ◌++◌, length, get_or, take, drop, set, sym, refl, ap, ◌∙◌, subst, arith}
+use Rattle.std.proofs.Common.{◌≡◌, ℕ, suc, ◌+◌, ◌-◌, ◌<◌, ◌≤◌, Bool, cond, ltb, List, [], ◌∷◌, ◌++◌, length, get_or, take, drop, set, sym, refl, ap, ◌∙◌, subst, arith}
 use Rattle.std.proofs.lemmas.List.{drop_more, drop-drop, drop_all, append-nil, append_assoc, length-append, length-drop, take_rest, take_more_set, take-append-drop, get_or_past, length-take-le}
 use Rattle.std.proofs.lemmas.Bool.{le-ltb}
-use Rattle.endless.specs.Games.{Place, Game, row, some_of, pick, whose, weight, other}
+use Rattle.endless.specs.Games.{Place, Game, row, some_of, pick, weight, other}
 use Rattle.endless.specs.Graph.{moves, Reading}
-use Rattle.endless.specs.declared.place.HeadWords.{HeadWords}
-use Rattle.endless.proofs.Reading.{Here, here}
+use Rattle.endless.proofs.Reading.{here}
 use Rattle.ends.specs.declared.mend.Copied.{Copied}
 use Rattle.ends.specs.Ends.{ReadsEnds, mended, made_from, made}
 use Rattle.ends.specs.Says.{told}
-use Rattle.ends.specs.Mending.{Light, Mended, HeadAt, Copies}
-use Rattle.ends.proofs.Forms.{fits_size, weight_fits}
+use Rattle.ends.specs.Mending.{Light, Mended, Copies}
+use Rattle.ends.proofs.Forms.{weight_fits}
 
 -- ---- the head of a place
 

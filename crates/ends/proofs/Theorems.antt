@@ -1,9 +1,9 @@
 -- The theorems about games with ends, through the games that are made of them.
-use Rattle.std.proofs.Common.{◌≡◌, ℕ, zero, suc, ◌<◌, List, ◌∷◌, length, sym, subst, arith}
-use Rattle.endless.specs.Games.{Game, row, whose, other}
+use Rattle.std.proofs.Common.{◌≡◌, ℕ, ◌<◌, List, ◌∷◌, length, sym, subst, arith}
+use Rattle.endless.specs.Games.{Game, row}
 use Rattle.endless.specs.Says.{WinsFrom}
-use Rattle.ends.specs.Ends.{ReadsEnds, last, WinsFromEnds, made}
-use Rattle.ends.specs.Says.{OneGameEnds, NotBothEnds, OneWinsEnds, EachIsWonEnds, OnlyAnswerEnds, MadeSame, Parts}
+use Rattle.ends.specs.Ends.{ReadsEnds, WinsFromEnds, made}
+use Rattle.ends.specs.Says.{OneGameEnds, NotBothEnds, OneWinsEnds, EachIsWonEnds, OnlyAnswerEnds, Parts}
 use Rattle.ends.proofs.Made.{wins_ends, wins_made}
 use Rattle.ends.proofs.Forms.{side_fits, length_made, made_reads, kept_whole}
 use Rattle.endless.proofs.Unique.{rows}

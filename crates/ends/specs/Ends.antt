@@ -1,5 +1,5 @@
 -- Games in which a place may have no moves, and plays that may end: whoever is to move at a place without moves has lost.
-use Rattle.std.specs.Prelude.{◌≡◌, ℕ, zero, suc, ◌<◌, Bool, true, false, ◌&&◌, T, List, [], ◌∷◌, length, ◌≢◌, nat_le, nat_lt}
+use Rattle.std.specs.Prelude.{◌≡◌, ℕ, suc, ◌<◌, Bool, true, ◌&&◌, T, List, [], ◌∷◌, length, ◌≢◌, nat_le, nat_lt}
 use Rattle.endless.specs.Games.{Place, Game, pick, below, some_of, row, whose, May, Play, Plays, ByPlan, Wins, other}
 
 -- as `ok-ps`, but that a place may have no moves

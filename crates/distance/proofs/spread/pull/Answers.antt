@@ -1,4 +1,4 @@
-use Rattle.std.proofs.Common.{◌≡◌, ℕ, ◌+◌, ◌*◌, ◌<◌, length, sym, refl, arith}
+use Rattle.std.proofs.Common.{◌*◌, arith}
 use Rattle.std.proofs.lemmas.List.{length-set}
 use Rattle.distance.proofs.Looking.{from_here, look_awaits, look_room, look_stays, look_waits, look_comes}
 use Rattle.distance.proofs.spread.pull.Goals as goal

@@ -1,8 +1,5 @@
-use Rattle.std.proofs.Common.{◌≡◌, ℕ, ◌+◌, ◌*◌, ◌<◌, ◌≤◌, length, get_or, sym, refl, ap, arith}
+use Rattle.std.proofs.Common.{length, refl, ap, arith}
 use Rattle.endless.specs.Sides.{number as side-number}
-use Rattle.endless.proofs.Places.{ok_size}
-use Rattle.distance.specs.Spreading.{number}
-use Rattle.distance.proofs.Spreads.{queued_small}
 use Rattle.distance.proofs.Looking.{look_all}
 use Rattle.distance.proofs.Pulls.{pulls_none, pulls_looks, pulls_more}
 use Rattle.distance.proofs.spread.pull_all.Goals as goal

@@ -1,4 +1,4 @@
-use Rattle.std.proofs.Common.{◌≡◌, ℕ, ◌+◌, ◌*◌, ◌<◌, ◌≤◌, length, refl, arith}
+use Rattle.std.proofs.Common.{refl, arith}
 use Rattle.endless.proofs.Places.{ok_size}
 use Rattle.distance.proofs.Spreads.{spread_last}
 use Rattle.distance.proofs.spread.spread.Goals as goal

@@ -1,4 +1,4 @@
-use Rattle.std.proofs.Common.{◌≡◌, length, get_or, refl, ap, ◌∙◌, arith, rules}
+use Rattle.std.proofs.Common.{get_or, refl, arith, rules}
 use Rattle.std.proofs.lemmas.List.{length-set}
 use Rattle.ends.proofs.Mending.{told_small, mending_none, mending_more, mending_stops, mending_all, mending_behind}
 use Rattle.ends.proofs.mend.mend.Goals as goal
