@@ -1,5 +1,5 @@
 -- What stands at a place, and rounds along which ranks fall.
-use Rattle.std.proofs.Common.{◌≡◌, ℕ, zero, suc, ◌+◌, ◌-◌, ◌<◌, ◌≤◌, Bool, true, false, cond, eqb, ◌⊎◌, List, [], ◌∷◌, length, get_or, take, drop, vec_items, sym, refl, ap, ◌∙◌, subst, inl, inr, le_refl, eq-or-lt_of_le, arith, drop-cons}
+use Rattle.std.proofs.Common.{◌≡◌, ℕ, zero, suc, ◌+◌, ◌-◌, ◌<◌, ◌≤◌, Bool, cond, ◌⊎◌, List, [], ◌∷◌, length, get_or, take, drop, vec_items, sym, refl, ap, ◌∙◌, subst, inl, inr, le_refl, eq-or-lt_of_le, arith, drop-cons}
 use Rattle.std.proofs.lemmas.Bool.{eq-eqb, ne_eqb}
 use Rattle.allplans.specs.declared.game.Place.{Place}
 use Rattle.allplans.specs.Rounds.{whose, weight, moves, goes_to, Among, Inside, Round, FallsBy}

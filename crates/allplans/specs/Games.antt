@@ -1,5 +1,5 @@
 -- Games as lists of places, and their words.
-use Rattle.std.specs.Prelude.{◌≡◌, ℕ, ◌<◌, ◌≤◌, List, [], ◌∷◌, ◌++◌, length, vec_items, vec_len, slice_index, slice_index_or}
+use Rattle.std.specs.Prelude.{ℕ, ◌<◌, ◌≤◌, List, [], ◌∷◌, ◌++◌, length, vec_items, vec_len, slice_index, slice_index_or}
 use Rattle.allplans.specs.declared.game.Place.{Place}
 
 -- each of the moves is to a place of the game

@@ -1,4 +1,4 @@
-use Rattle.std.proofs.Common.{◌≡◌, ℕ, ◌+◌, ◌*◌, ◌<◌, length, get_or, vec_items, vec_len}
+use Rattle.std.proofs.Common.{◌≡◌, ℕ, ◌+◌, ◌*◌, ◌<◌, get_or, vec_items, vec_len}
 use Rattle.allplans.proofs.checker.Answer.read.Given as goal
 
 abbrev pub invariant-loop-place : goal.invariant-loop-place

@@ -1,4 +1,4 @@
-use Rattle.std.proofs.Common.{vec_items, sym}
+use Rattle.std.proofs.Common.{vec_items}
 use Rattle.allplans.proofs.Written.{written_more, written_all}
 use Rattle.allplans.proofs.game.Game.words.Goals as goal
 
