@@ -1,8 +1,8 @@
 -- Small drawings, as they read.
-use Rattle.std.proofs.Common.{◌≡◌, ℕ, Bool, true, false, List, [], ◌∷◌, Ok, Err, codes, Result, refl}
-use Rattle.drawing.specs.declared.refusal.Fault.TheVariants.{Form, Side, Weight, NoMoves, LongName, EmptyName, Dash, Quote, Control}
+use Rattle.std.proofs.Common.{◌≡◌, ℕ, true, false, List, [], ◌∷◌, Ok, Err, codes, Result, refl}
+use Rattle.drawing.specs.declared.refusal.Fault.TheVariants.{Weight, Quote}
 use Rattle.drawing.specs.Form.{pieces, pieces_in, colon, word, wrong}
-use Rattle.drawing.specs.Reading.{lines, reading, Why, faulty, twice, unknown, no_places}
+use Rattle.drawing.specs.Reading.{lines, reading, Why, faulty, unknown, no_places}
 
 abbrev ReadsAs : List ℕ → Result (List (List ℕ) × List ℕ) Why → Type 0
 ReadsAs text answer = reading text ≡ answer

@@ -1,11 +1,11 @@
 -- What a line that holds a place says: a side, a weight, a move at least.
-use Rattle.std.proofs.Common.{◌≡◌, ℕ, zero, suc, ◌+◌, ◌-◌, ◌*◌, ◌<◌, ◌≤◌, Bool, true, false, cond, ltb, List, [], ◌∷◌, ◌++◌, length, Some, None, Ok, Err, Option, Result, sym, refl, ap, ◌∙◌, subst, arith}
+use Rattle.std.proofs.Common.{◌≡◌, ℕ, ◌+◌, ◌-◌, ◌*◌, ◌<◌, Bool, true, false, cond, ltb, List, [], ◌∷◌, length, Some, None, Ok, Err, Option, Result, refl, ap, subst, arith}
 use Rattle.std.specs.Char.{is_ascii_digit}
 use Rattle.std.specs.Str.{bytes_eq}
 use Rattle.std.proofs.lemmas.Bool.{ltb-true}
 use Rattle.drawing.specs.declared.refusal.Fault.{Fault}
 use Rattle.drawing.specs.declared.refusal.Fault.TheVariants.{Side, Weight}
-use Rattle.drawing.specs.Form.{Piece, colon, word, wrong, side_of, digits, weight_of, or_fault, number_first, colon_first, names_of, some_names, Entry, Line, nothing, place, bad, row_moves, row_colon, row_weight, row_side, row}
+use Rattle.drawing.specs.Form.{Piece, colon, word, wrong, side_of, digits, weight_of, or_fault, number_first, colon_first, names_of, some_names, Entry, place, bad, row_moves, row_colon, row_weight, row_side, row}
 
 pub record Fine (e : Entry) : Type 0 where
   pub sided : e.side < 2

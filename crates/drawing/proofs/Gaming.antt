@@ -1,10 +1,10 @@
 -- The words are those of a game, place by place as the lines say.
-use Rattle.std.proofs.Common.{◌≡◌, ℕ, zero, suc, ◌+◌, ◌<◌, ◌≤◌, Bool, true, false, cond, ◌&&◌, T, ltb, leb, List, [], ◌∷◌, ◌++◌, map, length, get_or, Some, None, Ok, Err, Option, Result, sym, refl, ap, ◌∙◌, subst, append_assoc, append-nil, arith}
+use Rattle.std.proofs.Common.{◌≡◌, ℕ, suc, ◌+◌, ◌<◌, Bool, true, false, cond, leb, List, [], ◌∷◌, ◌++◌, map, length, get_or, Some, None, Ok, Err, Option, Result, sym, refl, ap, ◌∙◌, subst, append_assoc, append-nil, arith}
 use Rattle.std.proofs.lemmas.List.{length-map}
-use Rattle.std.proofs.lemmas.Bool.{lt-ltb, le-leb, and_from}
-use Rattle.endless.specs.Games.{Place, Game, Reads, below, some_of, ok_ps, row as words}
+use Rattle.std.proofs.lemmas.Bool.{lt-ltb, and_from}
+use Rattle.endless.specs.Games.{Place, Game, below, some_of, ok_ps, row as words}
 use Rattle.drawing.specs.Form.{pieces, Entry, Line, nothing, place, bad}
-use Rattle.drawing.specs.Reading.{lines, bared, held, Why, many_moves, unknown, index_of, and_then, or_unknown, goals, word_line, word_lines}
+use Rattle.drawing.specs.Reading.{bared, held, Why, many_moves, index_of, and_then, or_unknown, goals, word_line, word_lines}
 use Rattle.drawing.specs.Drawn.{with_entry, entries, Good, AllGood, Placed, Places}
 use Rattle.drawing.proofs.Apartness.{index_is, ok_err}
 use Rattle.drawing.proofs.Entries.{Fine, row_fine}

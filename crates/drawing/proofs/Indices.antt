@@ -1,10 +1,10 @@
 -- Where a name stands among the names.
-use Rattle.std.proofs.Common.{◌≡◌, ℕ, zero, suc, ◌+◌, ◌<◌, ◌≤◌, Bool, true, false, cond, ltb, List, [], ◌∷◌, ◌++◌, length, get_or, is_some, Some, None, Ok, Err, Option, Result, sym, refl, ap, ◌∙◌, subst, arith}
+use Rattle.std.proofs.Common.{◌≡◌, ℕ, zero, suc, ◌<◌, ◌≤◌, Bool, true, false, cond, List, [], ◌∷◌, ◌++◌, length, get_or, is_some, Some, None, Ok, Err, Option, sym, refl, ap, ◌∙◌, arith}
 use Rattle.std.specs.Str.{bytes_eq}
 use Rattle.std.proofs.lemmas.Slice.Eq.{bytes_eq-Decides}
 use Rattle.std.proofs.lemmas.Bool.{cond-true, cond-false, lt-ltb, le-ltb}
-use Rattle.drawing.specs.Form.{Entry, Line, nothing, place, bad}
-use Rattle.drawing.specs.Reading.{up, index_of, or_unknown, Why, unknown, twice, many_places, add_new, name_line}
+use Rattle.drawing.specs.Form.{Entry, Line, place}
+use Rattle.drawing.specs.Reading.{up, index_of, or_unknown, unknown, twice, many_places, add_new, name_line}
 use Rattle.drawing.specs.Passes.{Apart}
 use Rattle.drawing.specs.Table.{Finds}
 

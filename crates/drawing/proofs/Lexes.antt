@@ -1,15 +1,14 @@
 -- What a token says of the pieces of a line.
-use Rattle.std.proofs.Common.{◌≡◌, ℕ, ◌+◌, ◌-◌, ◌*◌, ◌<◌, ◌≤◌, Bool, true, false, cond, ltb, List, [], ◌∷◌, length, get_or, drop, Some, None, Ok, Err, Option, Result, sym, refl, ap, ◌∙◌, subst, arith, Bor}
+use Rattle.std.proofs.Common.{◌≡◌, ℕ, ◌+◌, ◌-◌, ◌*◌, ◌<◌, ◌≤◌, true, false, List, [], ◌∷◌, length, get_or, drop, Some, None, Ok, Err, Result, sym, ap, ◌∙◌, subst, Bor}
 use Rattle.std.specs.Char.{is_ascii_digit}
 use Rattle.std.specs.Str.{bytes_eq}
 use Rattle.std.proofs.lemmas.List.{at_drop_more, at_drop_all}
 use Rattle.std.proofs.lemmas.Bool.{cond-true, cond-false, lt-ltb, le-ltb}
 use Rattle.drawing.specs.declared.refusal.Fault.{Fault}
-use Rattle.drawing.specs.declared.refusal.Fault.TheVariants.{Form}
 use Rattle.drawing.specs.declared.token.Spelt.{Spelt}
 use Rattle.drawing.specs.declared.token.Token.{Token}
 use Rattle.drawing.specs.declared.token.Token.TheVariants.{End, Colon, Word}
-use Rattle.drawing.specs.Form.{Piece, Next, no_more, next, colon, word, wrong, next_piece, pieces, side_of, digits, number_first, colon_first}
+use Rattle.drawing.specs.Form.{colon, word, wrong, next_piece, pieces, side_of, digits}
 use Rattle.drawing.specs.Lexed.{meant, Lexed, LexedAs}
 use Rattle.drawing.proofs.Pieces.{shorter, pieces_none, pieces_next, pieces_wrong}
 

@@ -1,5 +1,5 @@
 -- The moves of a line are written one after the other.
-use Rattle.std.proofs.Common.{◌≡◌, ℕ, suc, ◌+◌, ◌<◌, ◌≤◌, Bool, List, [], ◌∷◌, ◌++◌, length, get_or, Ok, Err, Result, sym, refl, ap, ◌∙◌, subst, append_assoc, arith}
+use Rattle.std.proofs.Common.{◌≡◌, ℕ, ◌+◌, ◌≤◌, Bool, List, [], ◌∷◌, ◌++◌, length, Ok, Err, Result, sym, refl, ap, ◌∙◌, append_assoc, arith}
 use Rattle.drawing.specs.declared.refusal.Fault.{Fault}
 use Rattle.std.proofs.lemmas.Bool.{cond-true, le-leb}
 use Rattle.drawing.specs.Form.{Piece, word, pieces, with_name, names_of, Entry, Line, place}

@@ -1,9 +1,9 @@
 -- The pieces of a line come one after the other.
-use Rattle.std.proofs.Common.{◌≡◌, ℕ, zero, suc, ◌+◌, ◌-◌, ◌<◌, ◌≤◌, min, Bool, true, false, cond, eqb, ltb, List, [], ◌∷◌, length, take, drop, Some, None, Option, sym, refl, ap, ◌∙◌, subst, arith, length-drop, length-take}
+use Rattle.std.proofs.Common.{◌≡◌, ℕ, zero, suc, ◌+◌, ◌-◌, ◌<◌, ◌≤◌, Bool, true, false, cond, eqb, ltb, List, [], ◌∷◌, length, take, drop, Some, None, Option, refl, ap, ◌∙◌, subst, arith, length-drop}
 use Rattle.std.proofs.lemmas.Bool.{eqb-false}
 use Rattle.drawing.specs.declared.refusal.Fault.{Fault}
 use Rattle.drawing.specs.declared.refusal.Fault.TheVariants.{LongName, EmptyName, Dash, Quote, Control}
-use Rattle.drawing.specs.Form.{until, stops, dark, closing, plain, Piece, Next, no_more, next, colon, word, wrong, fault, apart, dash, bare_word, bare, control_within, sized, quoted_word, quoted_at, quoted, next_dark, next_piece, onward, pieces_in, pieces}
+use Rattle.drawing.specs.Form.{until, stops, dark, closing, plain, Piece, Next, no_more, next, colon, word, wrong, fault, apart, dash, bare, control_within, quoted_at, quoted, next_dark, next_piece, onward, pieces_in, pieces}
 
 -- less than n bytes are left
 pub data Short (n : ℕ) : Next → Type 0 where

@@ -1,14 +1,13 @@
 -- A text is read in two passes, and then is the drawing of a game.
-use Rattle.std.proofs.Common.{◌≡◌, ℕ, zero, suc, ◌+◌, ◌<◌, ◌≤◌, Bool, true, false, cond, ◌&&◌, T, ltb, leb, List, [], ◌∷◌, ◌++◌, map, length, get_or, Ok, Err, Result, sym, refl, ap, ◌∙◌, subst, arith}
+use Rattle.std.proofs.Common.{◌≡◌, ℕ, ◌≤◌, true, ◌&&◌, T, leb, List, [], ◌∷◌, length, Ok, Err, Result, sym, refl, ap, ◌∙◌, subst, arith}
 use Rattle.std.proofs.lemmas.List.{length-map}
 use Rattle.std.proofs.lemmas.Bool.{le-ltb, le-leb, and_from, cond-false}
-use Rattle.endless.specs.Games.{Game, Reads, ok_ps, row as words}
-use Rattle.drawing.specs.Form.{Entry}
+use Rattle.endless.specs.Games.{Game, ok_ps, row as words}
 use Rattle.drawing.specs.Reading.{lines, Why, no_places, and_then, name_lines, word_lines, some_places, reading}
 use Rattle.drawing.specs.Passes.{Apart}
 use Rattle.drawing.specs.Drawn.{entries, Drawn}
-use Rattle.drawing.proofs.Apartness.{Follow, lines_follow, apart_different}
-use Rattle.drawing.proofs.Gaming.{Played, played, places_many}
+use Rattle.drawing.proofs.Apartness.{lines_follow, apart_different}
+use Rattle.drawing.proofs.Gaming.{played, places_many}
 
 abbrev second : List ℕ → List (List ℕ) → Result (List (List ℕ) × List ℕ) Why
 second text names = and_then (word_lines 1 names 0 (length names ∷ []) (lines text)) (λ ws. Ok (names, ws))

@@ -1,11 +1,8 @@
 -- A name that is written is read back.
-use Rattle.std.proofs.Common.{◌≡◌, ℕ, zero, suc, ◌+◌, ◌<◌, ◌≤◌, Bool, true, false, cond, not, ◌&&◌, ◌||◌, eqb, ltb, ◌⊎◌, List, [], ◌∷◌, ◌++◌, length, get_or, take, drop, is_ok, IfOk, Some, None, Ok, Err, Decides, Option, Result, sym, refl, ap, ◌∙◌, subst, inl, inr, ⊎_elim, arith}
-use Rattle.std.proofs.lemmas.Bool.Decides.{same_from_decides}
-use Rattle.std.proofs.lemmas.Slice.Eq.{bytes_eq-Decides}
+use Rattle.std.proofs.Common.{◌≡◌, ℕ, suc, ◌+◌, ◌<◌, Bool, true, false, cond, not, ◌&&◌, ◌||◌, eqb, ltb, List, [], ◌∷◌, ◌++◌, length, take, drop, is_ok, IfOk, Some, Ok, Err, Result, sym, refl, ap, ◌∙◌, subst, ⊎_elim, arith}
 use Rattle.std.proofs.lemmas.List.{take_at, drop_all, length_push, take_all}
-use Rattle.std.proofs.lemmas.Bool.{cond-true, cond-false, or_cases, or_parts, or_from, or_left, eqb-true, eqb-false, ne_eqb, eq-eqb, and_parts, not-true, le-ltb, ltb-true, lt-ltb, both_ways}
-use Rattle.drawing.specs.declared.refusal.Fault.TheVariants.{Control, Quote}
-use Rattle.drawing.specs.Form.{until, blank, dark, ends, stops, control, control_within, escapes, astray, closes, also, closing, plain, Piece, word, Next, next, no_more, fault, apart, dash, bare_word, bare, sized, quoted_word, quoted_at, quoted, next_dark, next_piece, pieces}
+use Rattle.std.proofs.lemmas.Bool.{cond-true, cond-false, or_cases, or_parts, or_from, eqb-true, ne_eqb, eq-eqb, and_parts, not-true, le-ltb, lt-ltb, both_ways}
+use Rattle.drawing.specs.Form.{until, blank, dark, ends, stops, control, control_within, astray, also, closing, plain, word, next, dash, bare_word, bare, sized, quoted_word, quoted_at, next_dark, next_piece}
 use Rattle.drawing.specs.Spelling.{special, escaped, plainly, spelling, IsName, Means}
 use Rattle.drawing.proofs.Pieces.{pieces_next, pieces_none}
 

@@ -1,9 +1,9 @@
 -- A row is read part by part.
-use Rattle.std.proofs.Common.{◌≡◌, ℕ, Bool, List, [], ◌∷◌, length, Some, Ok, Err, Option, Result, sym, refl, ap, ◌∙◌, subst}
+use Rattle.std.proofs.Common.{◌≡◌, ℕ, Bool, List, ◌∷◌, Some, Ok, Err, Option, sym, ap, ◌∙◌, subst}
 use Rattle.drawing.specs.declared.refusal.Fault.{Fault}
 use Rattle.drawing.specs.declared.refusal.Fault.TheVariants.{Side, Weight}
 use Rattle.drawing.specs.declared.row.Row.{Row}
-use Rattle.drawing.specs.Form.{Piece, word, pieces, side_of, weight_of, number_first, colon_first, names_of, some_names, Line, place, bad, row_moves, row_colon, row_weight, row_side, row}
+use Rattle.drawing.specs.Form.{Piece, word, pieces, side_of, weight_of, number_first, colon_first, names_of, some_names, bad, row_moves, row_colon, row_weight, row_side, row}
 use Rattle.drawing.specs.Lexed.{meant}
 use Rattle.drawing.specs.Rows.{lengths, Rowed, ReadRow}
 use Rattle.drawing.proofs.Counts.{counted, counted_err, some_is}

@@ -1,7 +1,7 @@
 -- Steps of the scans.
-use Rattle.std.proofs.Common.{◌≡◌, ℕ, suc, ◌+◌, ◌<◌, ◌≤◌, Bool, true, false, cond, not, ◌&&◌, ◌||◌, eqb, List, [], ◌∷◌, length, get_or, drop, Some, None, Option, sym, refl, ap, ◌∙◌, arith}
+use Rattle.std.proofs.Common.{◌≡◌, ℕ, ◌+◌, ◌<◌, ◌≤◌, Bool, true, false, cond, ◌||◌, eqb, List, length, get_or, drop, Some, None, Option, sym, refl, ap, ◌∙◌, arith}
 use Rattle.std.proofs.lemmas.List.{at_drop_more, at_drop_all}
-use Rattle.std.proofs.lemmas.Bool.{cond-true, cond-false, or_left, or_from, and_left, and_from}
+use Rattle.std.proofs.lemmas.Bool.{cond-true, cond-false, or_left}
 use Rattle.drawing.specs.Form.{until, control, control_within, escapes, astray, closes, also, closing, plain}
 
 module _ (p : ℕ → Bool) (bs : List ℕ) (n : ℕ) where

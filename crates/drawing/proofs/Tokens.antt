@@ -1,10 +1,10 @@
 -- Where a line is cut into tokens.
-use Rattle.std.proofs.Common.{◌≡◌, ℕ, zero, suc, ◌+◌, ◌-◌, ◌<◌, ◌≤◌, Bool, true, false, cond, not, ◌&&◌, ◌||◌, eqb, ltb, ◌⊎◌, List, [], ◌∷◌, length, get_or, take, drop, Some, None, IsUtf8, Option, sym, refl, ap, ◌∙◌, subst, inl, inr, ⊎_elim, arith}
+use Rattle.std.proofs.Common.{◌≡◌, ℕ, zero, suc, ◌+◌, ◌<◌, ◌≤◌, Bool, true, false, cond, eqb, List, [], ◌∷◌, length, get_or, take, drop, Some, None, IsUtf8, Option, sym, refl, ap, ◌∙◌, subst, ⊎_elim, arith}
 use Rattle.std.specs.Str.{IsCharBoundary}
-use Rattle.std.proofs.lemmas.Bool.{cond-true, cond-false, or_cases, eqb-true, cases_Bool, cases_lt, le-ltb, lt-ltb, not-false, and_parts, both_ways, eq-eqb, ne_eqb}
+use Rattle.std.proofs.lemmas.Bool.{cond-true, cond-false, or_cases, eqb-true, le-ltb, lt-ltb, not-false, and_parts, ne_eqb}
 use Rattle.std.proofs.lemmas.Str.{IsCharBoundary-after_ascii, IsCharBoundary-start}
-use Rattle.drawing.specs.Form.{until, blank, ends, stops, dark, feed, control_within, Piece, Next, no_more, next, colon, word, wrong, fault, apart, dash, bare_word, bare, astray, closes, escapes, also, closing, plain, sized, quoted_word, quoted_at, quoted, next_dark, next_piece}
-use Rattle.drawing.specs.declared.refusal.Fault.TheVariants.{LongName, EmptyName, Quote, Control}
+use Rattle.drawing.specs.Form.{until, blank, ends, stops, dark, control_within, next, word, wrong, apart, dash, bare_word, bare, astray, closes, escapes, also, closing, next_dark, next_piece}
+use Rattle.drawing.specs.declared.refusal.Fault.TheVariants.{LongName}
 
 module _ (p : ℕ → Bool) where
   pub until_le : (bs : List ℕ) → until p bs ≤ length bs

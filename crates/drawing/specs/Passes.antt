@@ -1,5 +1,5 @@
 -- What the passes over the lines give.
-use Rattle.std.specs.Prelude.{◌≡◌, ℕ, ◌<◌, ◌≤◌, List, [], ◌∷◌, ◌++◌, length, Some, Ok, Err, vec_items, string_bytes, Result, Vec, MatchResult, slice_index_or}
+use Rattle.std.specs.Prelude.{◌≡◌, ℕ, ◌<◌, ◌≤◌, List, [], ◌∷◌, length, Some, Ok, Err, vec_items, string_bytes, Result, Vec, MatchResult, slice_index_or}
 use Rattle.std.specs.declared.alloc.Global.{Global}
 use Rattle.drawing.specs.declared.names.Names.{Names}
 use Rattle.drawing.specs.declared.refusal.Refusal.{Refusal}

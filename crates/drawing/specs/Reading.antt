@@ -1,8 +1,8 @@
 -- What a text reads as: its lines, its places in their order, the words.
-use Rattle.std.specs.Prelude.{◌≡◌, ℕ, zero, suc, ◌+◌, ◌-◌, ◌*◌, ◌%◌, ◌<◌, ◌≤◌, Bool, true, false, cond, ◌&&◌, ◌||◌, List, [], ◌∷◌, ◌++◌, length, Some, None, Ok, Err, Option, Result, ◌==◌, nat_le, nat_lt}
+use Rattle.std.specs.Prelude.{ℕ, suc, ◌+◌, cond, List, [], ◌∷◌, ◌++◌, length, Some, None, Ok, Err, Option, Result, ◌==◌, nat_le, nat_lt}
 use Rattle.std.specs.Str.{bytes_eq}
 use Rattle.drawing.specs.declared.refusal.Fault.{Fault}
-use Rattle.drawing.specs.Form.{pieces, Entry, Line, nothing, place, bad, row}
+use Rattle.drawing.specs.Form.{pieces, Line, nothing, place, bad, row}
 
 -- the lines between line feeds
 abbrev pub onto : ℕ → List (List ℕ) → List (List ℕ)

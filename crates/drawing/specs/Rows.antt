@@ -1,10 +1,10 @@
 -- What the code reads of a line.
-use Rattle.std.specs.Prelude.{◌≡◌, ℕ, Bool, List, [], ◌∷◌, length, Some, None, Ok, Err, Option, Result}
+use Rattle.std.specs.Prelude.{◌≡◌, ℕ, Bool, List, ◌∷◌, length, Some, None, Ok, Err, Option, Result}
 use Rattle.std.specs.Borrow.{Bor}
 use Rattle.drawing.specs.declared.refusal.Fault.{Fault}
 use Rattle.drawing.specs.declared.token.Spelt.{Spelt}
 use Rattle.drawing.specs.declared.row.Row.{Row}
-use Rattle.drawing.specs.Form.{Piece, word, pieces, number_first, colon_first, names_of, some_names, Line, nothing, place, bad, row}
+use Rattle.drawing.specs.Form.{Piece, word, pieces, number_first, colon_first, names_of, nothing, place, bad, row}
 use Rattle.drawing.specs.Lexed.{meant}
 
 abbrev pub Worded : List Piece → Result (Spelt × Bor (List ℕ)) Fault → Type 0

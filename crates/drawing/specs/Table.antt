@@ -1,5 +1,5 @@
 -- A table of names: chains of those with one hash.
-use Rattle.std.specs.Prelude.{◌≡◌, ℕ, suc, ◌+◌, ◌*◌, ◌%◌, ◌<◌, ◌≤◌, List, [], ◌∷◌, ◌++◌, map, length, Some, None, vec_items, string_bytes, Option, ◌≢◌, slice_index, slice_index_or}
+use Rattle.std.specs.Prelude.{◌≡◌, ℕ, suc, ◌+◌, ◌*◌, ◌%◌, ◌<◌, ◌≤◌, List, [], ◌∷◌, map, length, Some, None, vec_items, string_bytes, Option, ◌≢◌, slice_index, slice_index_or}
 use Rattle.drawing.specs.declared.names.Names.{Names}
 
 abbrev pub hash : ℕ → List ℕ → ℕ

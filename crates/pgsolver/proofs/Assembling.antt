@@ -1,17 +1,16 @@
 -- What is read, looked up, weighed and written is the game that the text lists.
-use Rattle.std.proofs.Common.{◌≡◌, ℕ, zero, suc, ◌+◌, ◌<◌, ◌≤◌, Bool, true, false, ◌&&◌, T, leb, List, [], ◌∷◌, ◌++◌, map, length, get_or, Ok, Err, Result, sym, refl, ap, ◌∙◌, subst, arith}
+use Rattle.std.proofs.Common.{◌≡◌, ℕ, suc, ◌<◌, ◌≤◌, true, ◌&&◌, T, leb, List, [], ◌∷◌, map, length, get_or, Ok, Err, sym, refl, ap, ◌∙◌, subst, arith}
 use Rattle.std.proofs.lemmas.List.{length-map, get_or-map}
 use Rattle.std.proofs.lemmas.Bool.{le-leb, and_from}
-use Rattle.endless.specs.Games.{Place, Game, Reads, ok_ps, row as words}
+use Rattle.endless.specs.Games.{Game, ok_ps, row as words}
 use Rattle.pgsolver.specs.declared.text.Node.{Node}
 use Rattle.pgsolver.specs.declared.wrong.Wrong.{Wrong}
 use Rattle.pgsolver.specs.declared.wrong.Wrong.TheVariants.{Twice, Unknown, Priority, Memory}
 use Rattle.pgsolver.specs.Form.{Entry, all_goes, entries}
 use Rattle.pgsolver.specs.Held.{node_of}
-use Rattle.pgsolver.specs.Listed.{ids_in, priorities_in, nodes_from, line_at, line_of, Assembles, Unassembled, Inside, Listed}
-use Rattle.pgsolver.specs.Table.{Apart}
-use Rattle.pgsolver.specs.Weights.{Below, Keeps, Fitted, Alike, weights_of, NoRoom}
-use Rattle.pgsolver.specs.Wrongs.{Missing, Again, SomeOf, Indexed, FineAll, Ready, Placed, Places, Played, Worded}
+use Rattle.pgsolver.specs.Listed.{ids_in, priorities_in, nodes_from, Assembles, Unassembled, Inside, Listed}
+use Rattle.pgsolver.specs.Weights.{Fitted, weights_of}
+use Rattle.pgsolver.specs.Wrongs.{Missing, Again, Indexed, FineAll, Ready, Places, Worded}
 use Rattle.pgsolver.proofs.SameWins.{alike_many, same_wins}
 
 pub ids_same : (es : List Entry) → map (λ n. n.id) (nodes_from es) ≡ ids_in es

@@ -1,8 +1,8 @@
 -- Priorities are made smaller one after the other, from the least.
-use Rattle.std.proofs.Common.{◌≡◌, ℕ, zero, suc, ◌+◌, ◌-◌, ◌*◌, ◌%◌, ◌<◌, ◌≤◌, Bool, true, false, cond, eqb, ltb, ◌⊎◌, List, [], ◌∷◌, length, get_or, set, Some, None, Option, sym, refl, ap, ◌∙◌, subst, inl, inr, ⊎_elim, arith}
+use Rattle.std.proofs.Common.{◌≡◌, ℕ, ◌+◌, ◌%◌, ◌<◌, ◌≤◌, cond, eqb, ◌⊎◌, List, length, get_or, set, Some, None, Option, sym, refl, ap, ◌∙◌, subst, inl, inr, ⊎_elim, arith}
 use Rattle.std.proofs.lemmas.List.{length-set, get_or-set_same, get_or-set_other}
 use Rattle.std.proofs.lemmas.Bool.{cond-true, cond-false, ne_eqb, eq-eqb, cases_lt, cases_eq}
-use Rattle.pgsolver.specs.Weights.{Least, Marks, Below, Keeps, Fitted}
+use Rattle.pgsolver.specs.Weights.{Least, Marks, Below, Keeps}
 
 -- the least from the bound on among the first n; where there is none, it is 2 ^ 32
 abbrev pub Best : List ℕ → ℕ → ℕ → ℕ → Option ℕ → Type 0

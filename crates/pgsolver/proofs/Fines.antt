@@ -1,9 +1,8 @@
 -- What each node that is read has.
-use Rattle.std.proofs.Common.{◌≡◌, ℕ, zero, suc, ◌+◌, ◌<◌, ◌≤◌, Bool, true, false, cond, ltb, List, [], ◌∷◌, ◌++◌, length, Some, None, Ok, Err, Option, Result, sym, refl, ap, ◌∙◌, subst, arith, ltb→lt}
+use Rattle.std.proofs.Common.{◌≡◌, ℕ, zero, suc, ◌+◌, ◌<◌, ◌≤◌, Bool, true, false, cond, ltb, List, [], ◌∷◌, ◌++◌, length, Some, None, Ok, Err, Option, sym, refl, ap, subst, arith}
 use Rattle.std.proofs.lemmas.List.{length_push}
 use Rattle.std.proofs.lemmas.Bool.{ltb-true}
 use Rattle.pgsolver.specs.declared.refusal.Fault.TheVariants.{Number, Owner, NoSuccessor, TooManyNodes, TooManyMoves}
-use Rattle.pgsolver.specs.declared.refusal.Slip.{Slip}
 use Rattle.pgsolver.specs.declared.node.Head.{Head}
 use Rattle.pgsolver.specs.Form.{skip, slip, and_then, behind, number, owner_of, owner, head, goals_on, goals_in, goals, tail, Entry, node, all_goes, nodes_on, nodes_in, nodes, header, parity_word, start_word, entries}
 use Rattle.pgsolver.specs.Wrongs.{Fine, FineAll}

@@ -1,17 +1,15 @@
 -- Nodes are read one after the other.
-use Rattle.std.proofs.Common.{◌≡◌, ℕ, zero, suc, ◌+◌, ◌-◌, ◌*◌, ◌<◌, ◌≤◌, Bool, true, false, cond, eqb, ltb, List, [], ◌∷◌, ◌++◌, map, length, Some, None, Ok, Err, vec_items, Option, Result, sym, refl, ap, ◌∙◌, subst, append_assoc, append-nil, arith}
-use Rattle.std.specs.List.{flat_map}
-use Rattle.std.proofs.lemmas.List.{length-append, length-map, map_push, flat_map_more}
+use Rattle.std.proofs.Common.{◌≡◌, ℕ, zero, suc, ◌<◌, ◌≤◌, cond, ltb, List, [], ◌∷◌, ◌++◌, map, length, Ok, Err, vec_items, Result, sym, refl, ap, ◌∙◌, arith}
+use Rattle.std.proofs.lemmas.List.{length-map, map_push, flat_map_more}
 use Rattle.std.proofs.lemmas.Bool.{cond-true, cond-false, lt-ltb, le-ltb}
-use Rattle.pgsolver.specs.declared.refusal.Fault.{Fault}
-use Rattle.pgsolver.specs.declared.refusal.Fault.TheVariants.{TooManyNodes, Number}
+use Rattle.pgsolver.specs.declared.refusal.Fault.TheVariants.{TooManyNodes}
 use Rattle.pgsolver.specs.declared.refusal.Slip.{Slip}
 use Rattle.pgsolver.specs.declared.refusal.Stop.{Stop}
 use Rattle.pgsolver.specs.declared.refusal.Stop.TheVariants.{At, Memory}
 use Rattle.pgsolver.specs.Read.{Stops}
 use Rattle.pgsolver.specs.declared.node.Head.{Head}
 use Rattle.pgsolver.specs.declared.text.Nodes.{Nodes}
-use Rattle.pgsolver.specs.Form.{skip, slip, and_then, behind, number, head, owner, goals, goals_in, goals_on, tail, name, ended, Entry, node, all_goes, nodes_on, nodes_in, nodes}
+use Rattle.pgsolver.specs.Form.{skip, slip, and_then, head, goals, tail, name, Entry, node, all_goes, nodes_on, nodes_in, nodes}
 use Rattle.pgsolver.specs.Held.{texts, node_of, Empty, More, Holds}
 use Rattle.pgsolver.proofs.Lengths.{skip_le, node_less}
 

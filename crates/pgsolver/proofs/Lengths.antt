@@ -1,5 +1,5 @@
 -- What is left of a text is shorter than it.
-use Rattle.std.proofs.Common.{◌≡◌, ℕ, zero, suc, ◌+◌, ◌-◌, ◌*◌, ◌<◌, ◌≤◌, Bool, true, false, cond, eqb, ltb, List, [], ◌∷◌, ◌++◌, length, take, drop, Some, None, Ok, Err, Option, Result, sym, refl, ap, ◌∙◌, subst, arith}
+use Rattle.std.proofs.Common.{◌≡◌, ℕ, zero, suc, ◌+◌, ◌-◌, ◌*◌, ◌<◌, ◌≤◌, Bool, true, false, cond, eqb, ltb, List, [], ◌∷◌, ◌++◌, length, take, drop, Some, None, Ok, Err, Option, Result, sym, refl, ap, arith}
 use Rattle.std.specs.Char.{is_ascii_digit}
 use Rattle.pgsolver.specs.declared.refusal.Fault.{Fault}
 use Rattle.pgsolver.specs.declared.refusal.Fault.TheVariants.{Large, Number, Owner, NoSuccessor, Quote, TooManyMoves}

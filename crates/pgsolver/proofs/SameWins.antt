@@ -1,8 +1,7 @@
 -- Weights in the same order, and odd as before, make the same plans win.
-use Rattle.std.proofs.Common.{◌≡◌, ℕ, zero, suc, ◌+◌, ◌%◌, ◌<◌, ◌≤◌, Bool, true, false, T, ◌⊎◌, ◌↔◌, List, [], ◌∷◌, length, get_or, sym, refl, ap, ◌∙◌, subst, inl, inr, ⊎_elim, arith}
-use mathlib.Core.Option.{Option, some, none}
-use Rattle.std.proofs.lemmas.Bool.{cases_lt, cases_eq}
-use Rattle.endless.specs.Games.{Place, Game, opt, nth, whose, weight, Among, first, later, May, Play, Plays, ByPlan, Heaviest, Wins, other}
+use Rattle.std.proofs.Common.{◌≡◌, ℕ, zero, suc, ◌%◌, ◌<◌, ◌≤◌, Bool, T, List, [], ◌∷◌, length, get_or, sym, refl, ap, ◌∙◌, subst, ⊎_elim, arith}
+use Rattle.std.proofs.lemmas.Bool.{cases_lt}
+use Rattle.endless.specs.Games.{Game, opt, nth, whose, weight, Among, May, Play, Wins, other}
 use Rattle.endless.specs.Says.{WinsFrom}
 use Rattle.pgsolver.specs.Weights.{Keeps, Alike, weights_of, SameWins}
 

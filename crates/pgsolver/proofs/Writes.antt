@@ -1,18 +1,16 @@
 -- Ids are looked up, and the words of the places are written.
-use Rattle.std.proofs.Common.{◌≡◌, ℕ, zero, suc, ◌+◌, ◌-◌, ◌*◌, ◌%◌, ◌<◌, ◌≤◌, Bool, true, false, cond, ◌&&◌, T, eqb, ltb, leb, ◌⊎◌, List, [], ◌∷◌, ◌++◌, map, length, get_or, take, drop, Ok, Err, Result, sym, refl, ap, ◌∙◌, subst, inl, inr, ⊎_elim, append_assoc, append-nil, arith}
-use mathlib.Core.List.{map-append}
+use Rattle.std.proofs.Common.{◌≡◌, ℕ, zero, suc, ◌+◌, ◌-◌, ◌*◌, ◌<◌, ◌≤◌, Bool, true, false, ◌&&◌, ltb, List, [], ◌∷◌, ◌++◌, map, length, get_or, take, drop, Err, Result, sym, refl, ap, ◌∙◌, subst, ⊎_elim, append_assoc, append-nil, arith}
 use Rattle.std.proofs.lemmas.List.{length-map, length-take, length_push, length-append, take_more, take_all, get_or_append_left, get_or_push, get_or-map, get_or-take, map_push, drop_more, drop_all, drop_at, drop-drop, take_at, length-drop}
-use Rattle.std.proofs.lemmas.Bool.{cond-true, cond-false, ne_eqb, eq-eqb, cases_lt, cases_eq, lt-ltb, and_from}
-use Rattle.endless.specs.Games.{Place, Game, below, some_of, ok_ps, row as words}
+use Rattle.std.proofs.lemmas.Bool.{cases_lt, lt-ltb, and_from}
+use Rattle.endless.specs.Games.{Place, below, some_of, row as words}
 use Rattle.pgsolver.specs.declared.text.Node.{Node}
 use Rattle.pgsolver.specs.Form.{Entry, all_goes}
 use Rattle.pgsolver.specs.Table.{Apart}
-use Rattle.std.specs.List.{flat_map}
 use Rattle.pgsolver.specs.declared.wrong.Wrong.{Wrong}
 use Rattle.pgsolver.specs.declared.wrong.Wrong.TheVariants.{Twice, Unknown, Priority, Memory}
 use Rattle.pgsolver.specs.Held.{node_of}
-use Rattle.pgsolver.specs.Weights.{Below, Alike, weights_of}
-use Rattle.pgsolver.specs.Wrongs.{Missing, Again, SomeOf, Gone, Went, Fine, FineAll, Ready, Placed, Places, Played, Worded}
+use Rattle.pgsolver.specs.Weights.{weights_of}
+use Rattle.pgsolver.specs.Wrongs.{Missing, Again, SomeOf, Gone, Went, Fine, FineAll, Ready, Played, Worded}
 
 pub gone_none : (ids acc : List ℕ) → Gone ids [] acc acc
 gone_none ids acc = record { to = []; is = sym (append-nil acc); reads = refl; low = refl }

@@ -1,5 +1,5 @@
 -- The nodes of a text as they are held.
-use Rattle.std.specs.Prelude.{◌≡◌, ℕ, ◌<◌, ◌≤◌, List, [], ◌∷◌, ◌++◌, map, length, Ok, Err, vec_items, Result}
+use Rattle.std.specs.Prelude.{◌≡◌, ℕ, List, [], ◌∷◌, ◌++◌, map, length, Ok, Err, vec_items, Result}
 use Rattle.std.specs.Borrow.{Bor}
 use Rattle.pgsolver.specs.declared.node.Head.{Head}
 use Rattle.pgsolver.specs.declared.text.Node.{Node}

@@ -1,9 +1,8 @@
 -- A text and the game that it lists.
-use Rattle.std.specs.Prelude.{◌≡◌, ℕ, suc, ◌+◌, ◌-◌, ◌<◌, ◌≤◌, Bool, cond, T, ◌↔◌, List, [], ◌∷◌, map, length, take, Ok, Err, vec_items, Result, Vec, ◌==◌, slice_index, slice_index_or}
+use Rattle.std.specs.Prelude.{◌≡◌, ℕ, ◌+◌, ◌-◌, ◌<◌, Bool, cond, T, ◌↔◌, List, [], ◌∷◌, map, length, take, Ok, Err, vec_items, Result, Vec, ◌==◌, slice_index, slice_index_or}
 use Rattle.std.specs.declared.alloc.Global.{Global}
 use Rattle.endless.specs.Games.{Game, Reads}
 use Rattle.endless.specs.Says.{WinsFrom}
-use Rattle.pgsolver.specs.declared.refusal.Slip.{Slip}
 use Rattle.pgsolver.specs.declared.refusal.Refusal.{Refusal}
 use Rattle.pgsolver.specs.declared.refusal.Refusal.TheVariants.{Fault, Twice, Unknown, TooManyPriorities, TooLong, NoNodes, Memory}
 use Rattle.pgsolver.specs.declared.wrong.Wrong.{Wrong}

@@ -1,5 +1,5 @@
 -- A table of ids: chains of those in one bucket.
-use Rattle.std.specs.Prelude.{◌≡◌, ℕ, suc, ◌+◌, ◌*◌, ◌%◌, ◌<◌, ◌≤◌, List, [], ◌∷◌, ◌++◌, map, length, Some, None, vec_items, Option, ◌≢◌, slice_index}
+use Rattle.std.specs.Prelude.{◌≡◌, ℕ, suc, ◌%◌, ◌<◌, ◌≤◌, List, length, Some, None, vec_items, Option, ◌≢◌, slice_index}
 use Rattle.pgsolver.specs.declared.ids.Ids.{Ids}
 
 abbrev pub ids_of : Ids → List ℕ

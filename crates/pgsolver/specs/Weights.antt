@@ -1,8 +1,8 @@
 -- Priorities made smaller: in order, and odd as before.
-use Rattle.std.specs.Prelude.{◌≡◌, ℕ, ◌+◌, ◌%◌, ◌<◌, ◌≤◌, Bool, cond, T, ◌↔◌, List, [], ◌∷◌, length, Some, None, Option, ◌==◌, slice_index}
+use Rattle.std.specs.Prelude.{◌≡◌, ℕ, ◌%◌, ◌<◌, ◌≤◌, Bool, cond, T, ◌↔◌, List, [], ◌∷◌, length, Some, None, Option, ◌==◌, slice_index}
 use Rattle.pgsolver.specs.declared.weights.NoWeights.{NoWeights}
 use Rattle.pgsolver.specs.declared.weights.NoWeights.TheVariants.{TooMany, Memory}
-use Rattle.endless.specs.Games.{Game, Place, whose, weight, nth}
+use Rattle.endless.specs.Games.{Game}
 use Rattle.endless.specs.Says.{WinsFrom}
 
 -- the least from the bound on stands there, or there is none

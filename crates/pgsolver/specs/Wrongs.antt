@@ -1,5 +1,5 @@
 -- What is wrong with nodes, and the words that they make where nothing is.
-use Rattle.std.specs.Prelude.{◌≡◌, ℕ, ◌+◌, ◌<◌, ◌≤◌, true, List, [], ◌∷◌, ◌++◌, map, length, Ok, Err, vec_items, Result, Vec, ◌≢◌, slice_index, slice_index_or}
+use Rattle.std.specs.Prelude.{◌≡◌, ℕ, ◌<◌, ◌≤◌, true, List, [], ◌∷◌, ◌++◌, map, length, Ok, Err, vec_items, Result, Vec, ◌≢◌, slice_index, slice_index_or}
 use Rattle.std.specs.declared.alloc.Global.{Global}
 use Rattle.endless.specs.Games.{Place, Game, below, ok_ps, row as words}
 use Rattle.pgsolver.specs.declared.text.Node.{Node}

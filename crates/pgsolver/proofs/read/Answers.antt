@@ -1,7 +1,6 @@
-use Rattle.std.proofs.Common.{◌≡◌, ℕ, List, [], length, Ok, vec_items, sym, refl, ap, ◌∙◌, subst, arith}
+use Rattle.std.proofs.Common.{◌≡◌, length, Ok, sym, ap, ◌∙◌, arith}
 use Rattle.std.proofs.lemmas.List.{length-map, nil_from_length}
 use Rattle.std.proofs.lemmas.Bool.{eqb-true, eqb-false}
-use Rattle.pgsolver.specs.Form.{Entry}
 use Rattle.pgsolver.specs.Held.{node_of}
 use Rattle.pgsolver.proofs.Assembling.{inside, listed}
 use Rattle.pgsolver.proofs.Fines.{entries_good}

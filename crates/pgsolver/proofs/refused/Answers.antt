@@ -1,4 +1,4 @@
-use Rattle.std.proofs.Common.{◌≡◌, sym, ap, ◌∙◌, subst}
+use Rattle.std.proofs.Common.{ap, ◌∙◌, subst}
 use Rattle.pgsolver.specs.declared.text.Node.{Node}
 use Rattle.pgsolver.specs.Listed.{line_at, Unassembled, Inside}
 use Rattle.pgsolver.proofs.Assembling.{left_is, id_is}

@@ -1,4 +1,4 @@
-use Rattle.std.proofs.Common.{◌≡◌, IsUtf8, sym, ap, ◌∙◌, subst, arith}
+use Rattle.std.proofs.Common.{IsUtf8, ap, ◌∙◌, subst, arith}
 use Rattle.drawing.specs.Form.{until, feed}
 use Rattle.drawing.proofs.Tokens.{cut_at}
 use Rattle.drawing.proofs.LineSteps.{low_feed, cut_feed, last_line, first_line}

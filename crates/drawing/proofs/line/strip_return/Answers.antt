@@ -1,4 +1,4 @@
-use Rattle.std.proofs.Common.{◌≡◌, ◌+◌, ◌-◌, length, get_or, sym, ap, ◌∙◌, arith}
+use Rattle.std.proofs.Common.{◌-◌, length, get_or, sym, ap, ◌∙◌, arith}
 use Rattle.drawing.proofs.LineSteps.{bared_other, bared_cut, bared_none}
 use Rattle.drawing.proofs.line.strip_return.Goals as goal
 

@@ -1,4 +1,4 @@
-use Rattle.std.proofs.Common.{arith, rules}
+use Rattle.std.proofs.Common.{rules}
 use Rattle.drawing.proofs.Chains.{hash_more, hash_end}
 use Rattle.drawing.proofs.names.bucket.Goals as goal
 

@@ -1,4 +1,4 @@
-use Rattle.std.proofs.Common.{◌≡◌, ◌+◌, ◌*◌, ◌<◌, drop, sym, ap, subst, arith}
+use Rattle.std.proofs.Common.{◌≡◌, ◌+◌, ◌*◌, drop, sym, subst, arith}
 use Rattle.drawing.specs.Form.{digits}
 use Rattle.drawing.proofs.Lexes.{digits_end, digits_none, digits_big, digits_more}
 use Rattle.drawing.proofs.row.number.Goals as goal

@@ -1,4 +1,4 @@
-use Rattle.std.proofs.Common.{◌≡◌, ap, ◌∙◌, subst}
+use Rattle.std.proofs.Common.{ap}
 use Rattle.std.proofs.lemmas.Result.{err_from_is_err_and}
 use Rattle.drawing.specs.Form.{number_first}
 use Rattle.drawing.proofs.Lexes.{lexed_word, lexed_colon, lexed_end, lexed_wrong}

@@ -1,4 +1,4 @@
-use Rattle.std.proofs.Common.{false, [], ◌∷◌, sym}
+use Rattle.std.proofs.Common.{sym}
 use Rattle.drawing.proofs.Lexes.{side_none}
 use Rattle.drawing.proofs.row.side.Goals as goal
 

@@ -1,6 +1,5 @@
-use Rattle.std.proofs.Common.{sym, ap, ◌∙◌, subst}
-use Rattle.drawing.specs.Form.{escapes}
-use Rattle.drawing.proofs.Scans.{further, closing_astray, closing_here, closing_more, closing_none, closing_end}
+use Rattle.std.proofs.Common.{sym}
+use Rattle.drawing.proofs.Scans.{closing_astray, closing_here, closing_more, closing_none, closing_end}
 use Rattle.drawing.proofs.scan.closing_quote.Goals as goal
 
 pub loop-n-init : goal.loop-n-init

@@ -1,4 +1,3 @@
-use Rattle.std.proofs.Common.{sym}
 use Rattle.std.proofs.lemmas.Bool.{ne_eqb, eq-eqb}
 use Rattle.drawing.specs.Form.{feed}
 use Rattle.drawing.proofs.Scans.{until_more, until_here, until_end}

@@ -1,4 +1,4 @@
-use Rattle.std.proofs.Common.{◌≡◌, ◌-◌, ◌≤◌, [], length, get_or}
+use Rattle.std.proofs.Common.{◌≡◌, ◌-◌, [], length, get_or}
 use denote.Text.{Utf8}
 use denote.Shadow.{shadow}
 use Rattle.drawing.specs.Reading.{lines}

@@ -1,4 +1,4 @@
-use Rattle.std.proofs.Common.{◌≡◌, true, false, [], ◌∷◌, sym, ap, ◌∙◌}
+use Rattle.std.proofs.Common.{◌≡◌, false, sym, ap, ◌∙◌}
 use Rattle.std.proofs.lemmas.Bool.{eqb-false}
 use Rattle.drawing.specs.Form.{until, stops, control_within, dash}
 use Rattle.drawing.proofs.Tokens.{cut_at, low_stops, bare_long, bare_good}

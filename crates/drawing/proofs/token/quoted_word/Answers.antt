@@ -1,4 +1,4 @@
-use Rattle.std.proofs.Common.{◌≡◌, false, IsUtf8, sym, ap, ◌∙◌, subst}
+use Rattle.std.proofs.Common.{false, IsUtf8, sym, ap, ◌∙◌, subst}
 use Rattle.drawing.specs.Form.{closing}
 use Rattle.drawing.proofs.Tokens.{cut_closing, cut_closed}
 use Rattle.drawing.proofs.token.quoted_word.Goals as goal

@@ -1,4 +1,4 @@
-use Rattle.std.proofs.Common.{None, string_bytes, sym, ◌∙◌, subst}
+use Rattle.std.proofs.Common.{None, string_bytes, subst}
 use Rattle.drawing.specs.Lexed.{meant}
 use Rattle.drawing.specs.Table.{texts, Finds}
 use Rattle.drawing.proofs.Indices.{unknown_name}

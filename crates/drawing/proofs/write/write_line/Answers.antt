@@ -1,7 +1,6 @@
-use Rattle.std.proofs.Common.{◌≡◌, ℕ, ◌+◌, ◌-◌, ◌≤◌, List, [], ◌∷◌, ◌++◌, length, vec_items, sym, refl, ap, ◌∙◌, subst, arith}
+use Rattle.std.proofs.Common.{ℕ, ◌+◌, ◌≤◌, List, length, vec_items, sym, arith}
 use Rattle.std.proofs.lemmas.Result.{err_from_is_err_and}
-use Rattle.drawing.specs.Form.{pieces, Entry}
-use Rattle.drawing.specs.Lexed.{meant}
+use Rattle.drawing.specs.Form.{pieces}
 use Rattle.drawing.specs.Reading.{bared, held, goals, word_line}
 use Rattle.drawing.specs.Rows.{Rowed}
 use Rattle.drawing.specs.Table.{texts}

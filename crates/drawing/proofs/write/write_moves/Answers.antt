@@ -1,6 +1,6 @@
-use Rattle.std.proofs.Common.{◌≡◌, ℕ, ◌<◌, List, [], ◌∷◌, length, vec_items, sym, refl, ap, ◌∙◌, subst, rules}
+use Rattle.std.proofs.Common.{ℕ, List, vec_items, ap, rules}
 use Rattle.std.proofs.lemmas.Result.{err_from_is_err_and}
-use Rattle.drawing.specs.Form.{pieces, names_of}
+use Rattle.drawing.specs.Form.{names_of}
 use Rattle.drawing.specs.Lexed.{meant}
 use Rattle.drawing.specs.Reading.{goals, or_unknown, index_of}
 use Rattle.drawing.specs.Table.{texts}

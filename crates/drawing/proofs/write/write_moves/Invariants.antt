@@ -1,4 +1,4 @@
-use Rattle.std.proofs.Common.{ℕ, List, length, vec_items}
+use Rattle.std.proofs.Common.{length, vec_items}
 use denote.Text.{Utf8}
 use denote.Shadow.{shadow}
 use Rattle.drawing.specs.Table.{texts}

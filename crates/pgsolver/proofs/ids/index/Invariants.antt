@@ -1,4 +1,4 @@
-use Rattle.std.proofs.Common.{◌≡◌, ℕ, ◌-◌, ◌≤◌, map, length, take}
+use Rattle.std.proofs.Common.{◌≡◌, ◌-◌, ◌≤◌, map, length, take}
 use Rattle.pgsolver.specs.Table.{Sound, ids_of, Apart}
 use Rattle.pgsolver.proofs.ids.index.Given as goal
 

@@ -1,6 +1,6 @@
-use Rattle.std.proofs.Common.{◌≡◌, length, get_or, drop, sym, ap, ◌∙◌, arith}
+use Rattle.std.proofs.Common.{arith}
 use Rattle.std.proofs.lemmas.List.{at_drop_more, at_drop_all}
-use Rattle.pgsolver.specs.Listed.{feed, feeds}
+use Rattle.pgsolver.specs.Listed.{feeds}
 use Rattle.pgsolver.proofs.line.count_lines.Goals as goal
 
 pub loop-n-preserved : goal.loop-n-preserved

@@ -1,4 +1,4 @@
-use Rattle.std.proofs.Common.{◌≡◌, vec_items, sym, ap, ◌∙◌, subst, arith}
+use Rattle.std.proofs.Common.{sym, arith}
 use Rattle.std.proofs.lemmas.Result.{err_from_is_err_and}
 use Rattle.pgsolver.proofs.Goals.{goals_first, goals_slip, goals_many, goals_last, goals_more, goals_less}
 use Rattle.pgsolver.proofs.node.goals.Goals as goal

@@ -1,6 +1,5 @@
-use Rattle.std.proofs.Common.{◌≡◌, ◌+◌, length, take, drop, Ok, sym, ap, ◌∙◌}
-use Rattle.std.proofs.lemmas.List.{take_rest}
-use Rattle.pgsolver.specs.Form.{name_on, quote_index}
+use Rattle.std.proofs.Common.{sym, ap, ◌∙◌}
+use Rattle.pgsolver.specs.Form.{name_on}
 use Rattle.pgsolver.proofs.Goals.{name_is}
 use Rattle.pgsolver.proofs.node.name.Goals as goal
 

@@ -1,4 +1,4 @@
-use Rattle.std.proofs.Common.{◌≡◌, sym, ap, ◌∙◌, subst, arith}
+use Rattle.std.proofs.Common.{sym, ap, ◌∙◌, subst, arith}
 use Rattle.pgsolver.specs.Form.{numeral}
 use Rattle.pgsolver.specs.Read.{Read}
 use Rattle.pgsolver.proofs.Scans.{numeral_is}

@@ -1,4 +1,4 @@
-use Rattle.std.proofs.Common.{◌≡◌, ℕ, ◌-◌, List, ◌++◌, length, vec_items, sym, refl, ap, ◌∙◌, subst, arith}
+use Rattle.std.proofs.Common.{◌≡◌, ℕ, ◌-◌, List, length, vec_items, refl, ap, arith}
 use Rattle.std.proofs.lemmas.List.{length-append}
 use Rattle.pgsolver.proofs.Gathers.{node_is, holds_more}
 use Rattle.pgsolver.proofs.text.read_node.Goals as goal

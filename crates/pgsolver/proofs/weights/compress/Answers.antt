@@ -1,7 +1,7 @@
-use Rattle.std.proofs.Common.{◌≡◌, length, drop, vec_items, sym, refl, ap, ◌∙◌, subst, arith}
+use Rattle.std.proofs.Common.{◌≡◌, length, drop, sym, refl, ◌∙◌, subst}
 use Rattle.std.proofs.lemmas.List.{take_at}
 use Rattle.std.proofs.lemmas.Result.{err_from_is_err_and}
-use Rattle.pgsolver.specs.Weights.{Fitted, Keeps, Below}
+use Rattle.pgsolver.specs.Weights.{Keeps, Below}
 use Rattle.pgsolver.proofs.Compressing.{keeps_same}
 use Rattle.pgsolver.proofs.SameWins.{same_wins}
 use Rattle.pgsolver.proofs.weights.compress.Goals as goal

@@ -1,4 +1,4 @@
-use Rattle.std.proofs.Common.{◌≡◌, ◌+◌, ◌%◌, ◌<◌, get_or, sym, refl, ap, ◌∙◌, subst, arith}
+use Rattle.std.proofs.Common.{◌+◌, ◌%◌, ◌<◌, get_or, sym, refl, subst, arith}
 use Rattle.pgsolver.proofs.Compressing.{Spread, spread_more}
 use Rattle.pgsolver.proofs.weights.spread.Goals as goal
 

@@ -1,4 +1,4 @@
-use Rattle.std.proofs.Common.{ℕ, ◌-◌, ◌<◌, ◌≤◌}
+use Rattle.std.proofs.Common.{◌-◌, ◌≤◌}
 use Rattle.pgsolver.proofs.Compressing.{Spread}
 use Rattle.pgsolver.proofs.weights.spread.Given as goal
 

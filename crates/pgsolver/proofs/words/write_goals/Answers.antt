@@ -1,4 +1,4 @@
-use Rattle.std.proofs.Common.{◌≡◌, sym, refl, ap, ◌∙◌, subst, arith}
+use Rattle.std.proofs.Common.{arith}
 use Rattle.pgsolver.proofs.Writes.{gone_more, gone_all}
 use Rattle.pgsolver.proofs.words.write_goals.Goals as goal
 

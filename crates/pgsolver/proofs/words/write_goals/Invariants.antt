@@ -1,4 +1,4 @@
-use Rattle.std.proofs.Common.{ℕ, ◌-◌, ◌≤◌, length, take, vec_items}
+use Rattle.std.proofs.Common.{◌-◌, ◌≤◌, length, take, vec_items}
 use Rattle.pgsolver.specs.Table.{ids_of}
 use Rattle.pgsolver.specs.Wrongs.{Gone}
 use Rattle.pgsolver.proofs.words.write_goals.Given as goal

@@ -1,4 +1,4 @@
-use Rattle.std.proofs.Common.{◌≡◌, vec_items, sym, refl, ap, ◌∙◌, subst}
+use Rattle.std.proofs.Common.{vec_items}
 use Rattle.pgsolver.specs.Table.{ids_of}
 use Rattle.pgsolver.proofs.Writes.{went_from, pushed_three}
 use Rattle.pgsolver.proofs.words.write_place.Goals as goal

@@ -1,9 +1,8 @@
-use Rattle.std.proofs.Common.{◌≡◌, ℕ, ◌+◌, ◌-◌, ◌<◌, List, [], ◌∷◌, ◌++◌, length, get_or, take, drop, vec_items, sym, refl, ap, ◌∙◌, subst, arith}
+use Rattle.std.proofs.Common.{◌≡◌, ℕ, ◌+◌, ◌-◌, [], ◌∷◌, ◌++◌, length, get_or, take, drop, refl, ap, ◌∙◌, arith}
 use Rattle.std.proofs.lemmas.List.{length-map}
 use Rattle.std.proofs.lemmas.Result.{err_from_is_err_and}
 use Rattle.pgsolver.specs.declared.text.Node.{Node}
 use Rattle.pgsolver.specs.Held.{node_of}
-use Rattle.pgsolver.specs.Table.{ids_of}
 use Rattle.pgsolver.proofs.Writes.{end_fits, words_first, words_more, words_all, words_wrong, count_few, count_inside, weight_inside}
 use Rattle.pgsolver.proofs.words.write_words.Goals as goal
 

@@ -1,4 +1,4 @@
-use Rattle.std.proofs.Common.{ℕ, ◌-◌, ◌≤◌, List, length, vec_items}
+use Rattle.std.proofs.Common.{◌-◌, List, length, vec_items}
 use Rattle.pgsolver.specs.Form.{Entry}
 use Rattle.pgsolver.specs.Table.{ids_of}
 use Rattle.pgsolver.specs.Wrongs.{Ready}

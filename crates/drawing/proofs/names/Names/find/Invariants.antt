@@ -1,4 +1,4 @@
-use Rattle.std.proofs.Common.{ℕ, vec_items}
+use Rattle.std.proofs.Common.{vec_items}
 use Rattle.drawing.specs.Table.{texts}
 use Rattle.drawing.proofs.Chains.{Leads}
 use Rattle.drawing.proofs.names.Names.find.Given as goal

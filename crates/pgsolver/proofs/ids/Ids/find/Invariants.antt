@@ -1,4 +1,4 @@
-use Rattle.std.proofs.Common.{ℕ, vec_items}
+use Rattle.std.proofs.Common.{vec_items}
 use Rattle.pgsolver.specs.Table.{ids_of}
 use Rattle.pgsolver.proofs.Chains.{Leads}
 use Rattle.pgsolver.proofs.ids.Ids.find.Given as goal
