@@ -1,8 +1,8 @@
 -- What a solved game says of its places, and of a step.
-use Rattle.std.proofs.Common.{◌≡◌, ℕ, zero, suc, ◌+◌, ◌*◌, ◌<◌, ◌≤◌, List, [], ◌∷◌, length, get_or, sym, refl, ap, ◌∙◌, subst, arith}
-use Rattle.endless.specs.Games.{Game, Reads, Among, first, later, May, whose, weight}
+use Rattle.std.proofs.Common.{◌≡◌, ℕ, ◌<◌, List, [], ◌∷◌, length, get_or, sym, refl, subst, arith}
+use Rattle.endless.specs.Games.{Game, Reads, Among, May}
 use Rattle.endless.specs.Graph.{moves}
-use Rattle.endless.specs.Says.{WinsFrom, side, goes}
+use Rattle.endless.specs.Says.{WinsFrom, goes}
 use Rattle.endless.specs.Sides.{number}
 use Rattle.endless.specs.declared.side.Side.{Side}
 use Rattle.endless.specs.declared.side.Side.TheVariants.{Even, Odd}

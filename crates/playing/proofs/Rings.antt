@@ -1,8 +1,7 @@
 -- A ring of weights and their counts, as a weight comes.
-use Rattle.std.proofs.Common.{◌≡◌, ℕ, zero, suc, ◌+◌, ◌-◌, ◌<◌, ◌≤◌, eqb, ◌⊎◌, List, [], ◌∷◌, ◌++◌, length, get_or, take, drop, set, replicate, Some, None, Option, sym, refl, ap, ◌∙◌, subst, inl, inr, append_assoc, append-nil, add_comm, add-one, arith}
-use Rattle.std.proofs.lemmas.List.{length-drop, length-append, length-set, length-take, take-append-drop, drop-drop, drop-append-le, drop_more, drop_all, drop-set-lt, take_more, take_more_set, take_all, set_split, get_or-set_same, get_or-set_other}
+use Rattle.std.proofs.Common.{◌≡◌, ℕ, zero, suc, ◌+◌, ◌-◌, ◌<◌, ◌≤◌, eqb, ◌⊎◌, List, [], ◌∷◌, ◌++◌, length, get_or, take, drop, set, replicate, Some, None, Option, sym, refl, ap, ◌∙◌, subst, inl, inr, append_assoc, append-nil, arith}
+use Rattle.std.proofs.lemmas.List.{length-drop, length-append, length-set, take-append-drop, drop-drop, drop-append-le, drop_more, drop_all, drop-set-lt, take_more, take_more_set, take_all, set_split, get_or-set_same, get_or-set_other}
 use Rattle.std.proofs.lemmas.Bool.{cases_eq, cases_lt, eq-eqb, ne_eqb}
-use Rattle.endless.specs.Games.{Among}
 use Rattle.endless.specs.Graph.{times}
 use Rattle.endless.proofs.CountLaws.{one_if}
 use Rattle.endless.proofs.Sources.{times_append, times_left, times_among, among_times}

@@ -1,5 +1,5 @@
 -- The weights that came last, in a ring, and how often each stands there.
-use Rattle.std.specs.Prelude.{◌≡◌, ℕ, ◌+◌, ◌-◌, ◌<◌, ◌≤◌, List, [], ◌∷◌, ◌++◌, length, take, drop, Some, None, Option, slice_index, slice_set}
+use Rattle.std.specs.Prelude.{◌≡◌, ℕ, ◌+◌, ◌-◌, ◌<◌, ◌≤◌, List, [], ◌++◌, length, take, drop, Some, None, Option, slice_index, slice_set}
 use Rattle.endless.specs.Games.{Among}
 use Rattle.endless.specs.Graph.{times}
 

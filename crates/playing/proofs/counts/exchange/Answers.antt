@@ -1,6 +1,5 @@
-use Rattle.std.proofs.Common.{length, get_or, sym, ap, ◌∙◌, arith}
+use Rattle.std.proofs.Common.{length, get_or, ap, ◌∙◌, arith}
 use Rattle.std.proofs.lemmas.List.{length-set}
-use Rattle.playing.specs.Windows.{more, less}
 use Rattle.playing.proofs.Rings.{taken}
 use Rattle.playing.proofs.counts.exchange.Goals as goal
 

@@ -1,4 +1,4 @@
-use Rattle.std.proofs.Common.{◌<◌, length, sym, ap, subst}
+use Rattle.std.proofs.Common.{◌<◌, length, sym, subst}
 use Rattle.playing.proofs.Boards.{some_moves}
 use Rattle.playing.proofs.board.Board.moves.Goals as goal
 

@@ -1,4 +1,4 @@
-use Rattle.std.proofs.Common.{◌≡◌, ◌≤◌, List, [], ◌++◌, vec_items, deque_items, deque_len, sym, ap, ◌∙◌, subst, arith}
+use Rattle.std.proofs.Common.{◌≤◌, [], vec_items, deque_len, subst, arith}
 use Rattle.playing.specs.Windows.{Holds}
 use Rattle.playing.proofs.trail.Trail.cut.Goals as goal
 

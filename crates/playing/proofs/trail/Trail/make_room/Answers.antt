@@ -1,4 +1,4 @@
-use Rattle.std.proofs.Common.{◌≡◌, ◌<◌, ◌≤◌, length, drop, vec_items, deque_items, deque_len, sym, ap, ◌∙◌, arith}
+use Rattle.std.proofs.Common.{◌≡◌, ◌<◌, ◌≤◌, length, drop, vec_items, deque_items, deque_len, ap, arith}
 use Rattle.std.proofs.lemmas.List.{length-drop}
 use Rattle.playing.proofs.Rings.{holds_forget}
 use Rattle.playing.proofs.trail.Trail.make_room.Goals as goal

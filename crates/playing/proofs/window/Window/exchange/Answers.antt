@@ -1,9 +1,9 @@
-use Rattle.std.proofs.Common.{◌≡◌, ℕ, ◌+◌, ◌-◌, ◌<◌, ◌≤◌, List, [], ◌∷◌, ◌++◌, length, get_or, set, vec_items, vec_len, vec_capacity, sym, ap, ◌∙◌, subst, arith}
+use Rattle.std.proofs.Common.{◌≡◌, ℕ, ◌+◌, ◌-◌, ◌<◌, List, length, get_or, set, vec_items, sym, ap, ◌∙◌, subst, arith}
 use Rattle.std.proofs.lemmas.List.{length-set, with_items_is, get_or_read}
 use Rattle.std.specs.Vec.{with_items}
 use Rattle.endless.specs.Graph.{times}
 use Rattle.endless.proofs.Sources.{times_le}
-use Rattle.playing.specs.Windows.{Tells, Light, Holds, more, less}
+use Rattle.playing.specs.Windows.{Tells, more, less}
 use Rattle.playing.proofs.Rings.{light_set, tells_set, holds_set, stands_there}
 use Rattle.playing.proofs.window.Window.exchange.Goals as goal
 

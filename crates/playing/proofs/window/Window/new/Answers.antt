@@ -1,4 +1,4 @@
-use Rattle.std.proofs.Common.{◌≡◌, ℕ, ◌≤◌, List, [], length, get_or, replicate, vec_items, vec_capacity, sym, refl, ap, ◌∙◌, arith}
+use Rattle.std.proofs.Common.{◌≡◌, ◌≤◌, [], length, get_or, replicate, vec_items, vec_capacity, sym, refl, ap, ◌∙◌, arith}
 use Rattle.endless.specs.Graph.{times}
 use Rattle.playing.proofs.Rings.{getD_replicate_zero}
 use Rattle.playing.proofs.window.Window.new.Goals as goal
