@@ -4,8 +4,8 @@ cd "$(dirname "${BASH_SOURCE[0]}")/.."
 mkdir -p target/bench
 flags=(-std=c++17 -O3 -march=native -Wall -Wextra)
 
-rt staticlib endless_c
-library=(target/staticlib/libendless_c.a /opt/rattle/lib/librattle_c.a)
+(cd crates/endless_c && rt lib)
+library=(crates/endless_c/out/libendless_c.a)
 
 compile() {
   g++ "${flags[@]}" "bench/$1.cpp" bench/solvers.cpp bench/check.cpp bench/families.cpp "${library[@]}" -o "target/bench/$1"
