@@ -22,7 +22,10 @@ mod tests {
             rt.alloc(),
             "# a game\r\nup 0 3: down up down\r\n\tdown 1 007 : up",
         )?;
-        assert_eq!(rt; d.words.as_slice(), [2, 0, 3, 3, 1, 0, 1, 1, 7, 1, 0].as_slice());
+        assert_eq!(rt;
+            d.words.as_slice(),
+            [2, 0, 3, 3, 1, 0, 1, 1, 7, 1, 0].as_slice()
+        );
         assert!(rt; d.names.len() == 2);
         assert_eq!(rt; d.names[1].as_str(), "down");
         Ok(())
