@@ -223,10 +223,13 @@ module _ {v : Places} {w h : ℕ} {own part out left queue out' : List ℕ} {fro
       below : (n : ℕ) → In (having (members part) (weight g) h) n → n < from
       below n y = ((so_far.gathers g s).covers n (having_within (members part) (weight g) h n y) (starts.apart n y)).0
 
--- gathered of all of a set, each has a move into it where it is a subgame
-pub gathered_whole : {g : Game} {U : Set} {w h : ℕ} {left queue out : List ℕ} {count : ℕ} → GatheredIn g U U w h left queue out count → Gathered g U w h left queue out count
-gathered_whole {U = U} {h = h} ga = record {
+-- gathered of a copy of a set, each has a move into it where it is a subgame
+pub gathered_copied : {g : Game} {part own left queue out : List ℕ} {w h count : ℕ} → GatheredIn g (members part) (members own) w h left queue out count → part ≡ own → Gathered g (members own) w h left queue out count
+gathered_copied {g = g} {own = own} {left = left} {queue = queue} {out = out} {w = w} {h = h} {count = count} gathers copied = record {
   starts = ga.starts;
   labelled = ga.labelled;
-  moves = λ sub n y. let t = sub.goes_on n (having_within U _ h n y) in ga.stays n y t.0 t.1 t.2;
+  moves = λ sub n y. let t = sub.goes_on n (having_within (members own) (weight g) h n y) in ga.stays n y t.0 t.1 t.2;
 }
+  where
+    ga : GatheredIn g (members own) (members own) w h left queue out count
+    ga = subst (λ (l : List ℕ). GatheredIn g (members l) (members own) w h left queue out count) copied gathers
