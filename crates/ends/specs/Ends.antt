@@ -2,7 +2,7 @@
 use Rattle.std.specs.Prelude.{◌≡◌, ℕ, suc, ◌<◌, Bool, true, ◌&&◌, T, List, [], ◌∷◌, length, ◌≢◌, nat_le, nat_lt}
 use Rattle.endless.specs.Games.{Place, Game, pick, below, some_of, row, whose, May, Play, Plays, ByPlan, Wins, other}
 
--- as `ok-ps`, but that a place may have no moves
+-- as `ok_ps`, but that a place may have no moves
 abbrev pub ok_ends : ℕ → List Place → Bool
 ok_ends n [] = true
 ok_ends n (p ∷ ps) = (nat_lt p.whose 2 && nat_lt p.weight 256) && (below n p.moves && ok_ends n ps)
