@@ -2,9 +2,7 @@
 use Rattle.std.proofs.Common.{◌≡◌, ℕ, ◌+◌, ◌<◌, ◌≤◌, List, [], length, get_or, take, sym, ap, ◌∙◌, subst, arith}
 use Rattle.endless.specs.Games.{Game}
 use Rattle.endless.specs.Graph.{sources}
-use Rattle.endless.specs.View.{Graphs}
-use Rattle.endless.specs.declared.graph.Graph.{Graph}
-use Rattle.distance.specs.Spreading.{number, Spread, Looks, Kept, Roomy}
+use Rattle.distance.specs.Spreading.{number, Spread, Looks, Kept}
 
 -- so many of them looked at: from every state at the start, the state now
 pub record Pulled (g : Game) (w target : ℕ) (before : List ℕ) (head to next i : ℕ) (out queue awaited : List ℕ) (filled tail : ℕ) : Type 0 where
@@ -13,12 +11,12 @@ pub record Pulled (g : Game) (w target : ℕ) (before : List ℕ) (head to next 
   pub head_is : get_or queue head 0 ≡ to
   pub next_is : next ≡ number out to + 1
 
-abbrev pub Pulls : Graph → ℕ → ℕ → ℕ → List ℕ → List ℕ → List ℕ → ℕ → ℕ → List ℕ → List ℕ → List ℕ → ℕ → Type 0
-Pulls v w to next out₀ queue₀ awaited₀ filled i out queue awaited tail = (g : Game) (target : ℕ) (before : List ℕ) (head : ℕ) → Graphs v g → Roomy g out₀ queue₀ awaited₀ → head < filled → get_or queue₀ head 0 ≡ to →
+abbrev pub Pulls : Game → ℕ → ℕ → ℕ → List ℕ → List ℕ → List ℕ → ℕ → ℕ → List ℕ → List ℕ → List ℕ → ℕ → Type 0
+Pulls g w to next out₀ queue₀ awaited₀ filled i out queue awaited tail = (target : ℕ) (before : List ℕ) (head : ℕ) → head < filled → get_or queue₀ head 0 ≡ to →
     Spread g w target before head [] out₀ queue₀ awaited₀ filled → Pulled g w target before head to next i out queue awaited filled tail
 
-pub pulls_none : (v : Graph) (w to next : ℕ) (out queue awaited : List ℕ) (filled : ℕ) → next ≡ number out to + 1 → Pulls v w to next out queue awaited filled 0 out queue awaited filled
-pulls_none v w to next out queue awaited filled is g target before head gr roomy h e st = record { spread = st; within = omega arith; head_is = e; next_is = is }
+pub pulls_none : (g : Game) (w to next : ℕ) (out queue awaited : List ℕ) (filled : ℕ) → next ≡ number out to + 1 → Pulls g w to next out queue awaited filled 0 out queue awaited filled
+pulls_none g w to next out queue awaited filled is target before head h e st = record { spread = st; within = omega arith; head_is = e; next_is = is }
 
 -- what is looked at next
 pub pulls_looks : {g : Game} {w target : ℕ} {before : List ℕ} {head to next i : ℕ} {out queue awaited : List ℕ} {filled tail : ℕ} {r : List ℕ} → r ≡ sources 0 g to → head < filled → i < length r → Pulled g w target before head to next i out queue awaited filled tail → Looks g to next (get_or r i 0) head i queue out tail

@@ -5,5 +5,5 @@
 pub mod distances;
 pub mod spread;
 
-pub use distances::{Distances, distances_to};
+pub use distances::distances_to;
 pub use spread::NEVER;

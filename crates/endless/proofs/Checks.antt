@@ -1,19 +1,20 @@
 -- Looking at an answer: the places given to a side, and what a flaw of its plan there says of the answer.
-use Rattle.std.proofs.Common.{◌≡◌, ℕ, ◌+◌, ◌*◌, ◌%◌, ◌<◌, ◌≤◌, Bool, ◌||◌, T, ltb, ◌⊎◌, ◌↔◌, List, length, get_or, Some, None, Option, sym, refl, ap, ◌∙◌, subst, inl, inr, arith, ltb→lt, lt→ltb, MatchOption}
-use Rattle.std.proofs.lemmas.Bool.{cases_eq, eq-eqb, ne_eqb}
+use Rattle.std.proofs.Common.{◌≡◌, ℕ, ◌*◌, ◌%◌, ◌<◌, ◌≤◌, ltb, ◌⊎◌, ◌↔◌, List, length, get_or, MatchOption, Option, Some, None, Ok, Err, sym, refl, ap, ◌∙◌, subst, inl, inr, arith}
+use Rattle.std.proofs.lemmas.Bool.{cases_eq}
 use Rattle.endless.specs.Games.{Game, Reads}
 use Rattle.endless.specs.Says.{WinsFrom, side, goes}
 use Rattle.endless.specs.Sets.{Set, In, Within, whole, having}
 use Rattle.endless.specs.Subgames.{Holds, Solves}
 use Rattle.endless.specs.Sides.{number}
-use Rattle.endless.specs.Bits.{members, size, Inserted}
+use Rattle.endless.specs.Bits.{members, size}
 use Rattle.endless.specs.Flaws.{FlawIs}
-use Rattle.endless.specs.Checked.{IsAnswer, ReasonIs, CheckedPost, Tabled}
+use Rattle.endless.specs.Layout.{Accepts}
+use Rattle.endless.specs.Checked.{IsAnswer, ReasonIs, CheckedPost}
 use Rattle.endless.specs.declared.flaw.Flaw.{Flaw}
 use Rattle.endless.specs.declared.flaw.Flaw.TheVariants.{NoMove, Leaves, Escape, LosingRound}
 use Rattle.endless.specs.declared.verdict.Reason.{Reason}
 use Rattle.endless.specs.declared.verdict.Reason.TheVariants.{Short, NoSide, Plan}
-use Rattle.endless.specs.declared.verdict.Checked.TheVariants.{Right, Wrong, NoGame, Few}
+use Rattle.endless.specs.declared.verdict.Rejection.TheVariants.{Wrong}
 use Rattle.endless.specs.declared.side.Side.{Side}
 use Rattle.endless.specs.declared.side.Side.TheVariants.{Even, Odd}
 use Rattle.endless.proofs.Tests.{T_true, true_T}
@@ -23,52 +24,10 @@ use Rattle.endless.proofs.Places.{not_other}
 use Rattle.endless.proofs.Sets.{whole_in, whole_place, having_in, having_within, having_is, each_map}
 use Rattle.endless.proofs.SetLaws.{size_sub}
 use Rattle.endless.proofs.Working.{side_at}
-use Rattle.endless.proofs.Steps.{wins_holds, wins_as, solves_wins}
+use Rattle.endless.proofs.Steps.{holds_as, wins_holds, wins_as, solves_wins}
+use Rattle.endless.proofs.Layouts.{filled_whole, whole_filled}
 
--- ---- the places given to a side
-
--- the places below n that the answer gives to w
-abbrev pub GivenTo : List ℕ → ℕ → ℕ → List ℕ → Type 0
-GivenTo o w n set = (j : ℕ) → (In (members set) j ↔ ((j < n) × (get_or o (2 * j) 0 ≡ w)))
-
-pub given_none : (o : List ℕ) (w : ℕ) (set : List ℕ) → ((j : ℕ) → members set j ≡ ltb j 0) → GivenTo o w 0 set
-given_none o w set are j = (λ x. absurd (omega (arith, ltb→lt j 0 (subst T (are j) x))), λ t. absurd (omega (arith, t.0)))
-
-pub given_skip : (o : List ℕ) (w n : ℕ) (set : List ℕ) → GivenTo o w n set → (get_or o (2 * n) 0 ≡ w → ⊥) → GivenTo o w (n + 1) set
-given_skip o w n set so_far d j = (λ x. let t = (so_far j).0 x in (omega (arith, t.0), t.1), λ t. go t (cases_eq j n))
-  where
-    go : (j < n + 1) × (get_or o (2 * j) 0 ≡ w) → (j ≡ n) ⊎ (j ≡ n → ⊥) → In (members set) j
-    go t (inl e) = absurd (d (ap (λ (i : ℕ). get_or o (2 * i) 0) (sym e) ∙ t.1))
-    go t (inr e) = (so_far j).1 (omega (arith, t.0), t.1)
-
-pub given_more : (o : List ℕ) (w n : ℕ) (set set' : List ℕ) → GivenTo o w n set → get_or o (2 * n) 0 ≡ w → Inserted set n set' → GivenTo o w (n + 1) set'
-given_more o w n set set' so_far is ins j = go (cases_eq j n)
-  where
-    go : (j ≡ n) ⊎ (j ≡ n → ⊥) → In (members set') j ↔ ((j < n + 1) × (get_or o (2 * j) 0 ≡ w))
-    go (inl e) = (λ x. (omega arith, ap (λ (i : ℕ). get_or o (2 * i) 0) e ∙ is), λ t. true_T _ (ins.are j ∙ ap (λ (b : Bool). b || members set j) (eq-eqb j n e)))
-    go (inr d) =
-        let same : members set' j ≡ members set j = ins.are j ∙ ap (λ (b : Bool). b || members set j) (ne_eqb j n d) in
-        (λ x. let t = (so_far j).0 (subst T same x) in (omega (arith, t.0), t.1), λ t. subst T (sym same) ((so_far j).1 (omega (arith, t.0), t.1)))
-
-module _ (g : Game) (o : List ℕ) (w n : ℕ) (set : List ℕ) (all : n ≡ length g) (long : 2 * length g ≤ length o) (given : GivenTo o w n set) where
-  pub given_place : (j : ℕ) → In (members set) j → j < length g
-  given_place j x = omega (arith, ((given j).0 x).0)
-
-  pub given_having : Within (members set) (having (whole g) (side o) w)
-  given_having j x = let t = (given j).0 x in having_in (whole g) (side o) w j (whole_in g j (omega (arith, t.0))) (side_at o j (omega (arith, t.0)) ∙ t.1)
-
-  pub having_given : Within (having (whole g) (side o) w) (members set)
-  having_given j x =
-      let l = whole_place g j (having_within (whole g) (side o) w j x) in
-      (given j).1 (omega arith, sym (side_at o j (omega arith)) ∙ having_is (whole g) (side o) w j x)
-
--- a set of a game's places has no more members than there are places
-pub given_room : (g : Game) (all set : List ℕ) → length set ≡ length all → ((j : ℕ) → members all j ≡ ltb j (length g)) → size all ≡ length g → ((j : ℕ) → In (members set) j → j < length g) → size set ≤ length g
-given_room g all set e are many inside = omega (arith, size_sub set all e (λ j x. are j ∙ T_true _ (lt→ltb j (length g) (inside j (true_T _ x)))), many)
-
--- ---- a flaw of a plan
-
--- in the same sets, told otherwise
+-- a flaw of a plan in the same sets, told otherwise
 pub flaw_as : (g : Game) (U V X Y : Set) (w : ℕ) (plan : ℕ → ℕ) → Within U V → Within X Y → Within Y X → (f : Flaw) → FlawIs g U X w plan f → FlawIs g V Y w plan f
 flaw_as g U V X Y w plan uv xy yx (NoMove n) t = (xy _ t.0, t.1, t.2)
 flaw_as g U V X Y w plan uv xy yx (Leaves n) t = (xy _ t.0, t.1, t.2, λ y. t.3 (yx _ y))
@@ -77,9 +36,41 @@ flaw_as g U V X Y w plan uv xy yx (LosingRound n k) t =
     let r = t.1 in
     (xy _ t.0, record { places = r.places; inside = each_map xy r.places r.inside; round = r.round; weighs = r.weighs; theirs = r.theirs })
 
-pub cases_as : {A : Type 0} {P Q : Type 0} {B C : A → Type 0} (r : Option A) → (P → Q) → ((x : A) → B x → C x) → MatchOption r P B → MatchOption r Q C
-cases_as (Some x) a b t = b x t
-cases_as None a b t = a t
+-- the first number below n of which Yes is so
+pub first_below : (Yes No : ℕ → Type 0) (n : ℕ) (r : Option ℕ) → MatchOption r ((k : ℕ) → 0 ≤ k → k < n → No k) (λ i. (0 ≤ i) × (i < n) × Yes i × ((k : ℕ) → 0 ≤ k → k < i → No k)) → MatchOption r ((k : ℕ) → k < n → No k) (λ i. (i < n) × Yes i)
+first_below Yes No n None none = λ k l. none k (omega arith) l
+first_below Yes No n (Some i) t = (t.1, t.2)
+
+-- ---- the places given to a side
+
+-- the places below n that the answer gives to w
+abbrev pub GivenTo : List ℕ → ℕ → ℕ → List ℕ → Type 0
+GivenTo o w n set = (j : ℕ) → (In (members set) j ↔ ((j < n) × (get_or o (2 * j) 0 ≡ w)))
+
+module _ (g : Game) (o : List ℕ) (w n : ℕ) (all set : List ℕ) (are : (j : ℕ) → members all j ≡ ltb j (length g)) (many : n ≡ length g) (long : 2 * length g ≤ length o) (given : GivenTo o w n set) where
+  given_having : Within (members set) (having (whole g) (side o) w)
+  given_having j x = let t = (given j).0 x in having_in (whole g) (side o) w j (whole_in g j (omega (arith, t.0))) (side_at o j (omega (arith, t.0)) ∙ t.1)
+
+  having_given : Within (having (whole g) (side o) w) (members set)
+  having_given j x =
+      let l = whole_place g j (having_within (whole g) (side o) w j x) in
+      (given j).1 (omega arith, sym (side_at o j (omega arith)) ∙ having_is (whole g) (side o) w j x)
+
+  given_all : Within (members set) (members all)
+  given_all j x = whole_filled g all are j (having_within (whole g) (side o) w j (given_having j x))
+
+  -- there are no more of them than there are places
+  pub given_room : length set ≡ length all → size all ≡ length g → size set ≤ length g
+  given_room e size-all = omega (arith, size_sub set all e (λ j x. T_true _ (given_all j (true_T _ x))))
+
+  -- what is so of them, as words hold them and the set of all places, is so in the whole game
+  pub given_holds : {plan : ℕ → ℕ} → (Within (members set) (members all) → Holds g (members all) (members set) w plan) → Holds g (whole g) (having (whole g) (side o) w) w plan
+  given_holds holds = holds_as (members all) (whole g) (members set) (having (whole g) (side o) w) (filled_whole g all are) (whole_filled g all are) given_having having_given (holds given_all)
+
+  pub given_flaw : (plan : ℕ → ℕ) (f : Flaw) → (Within (members set) (members all) → FlawIs g (members all) (members set) w plan f) → FlawIs g (whole g) (having (whole g) (side o) w) w plan f
+  given_flaw plan f flaw = flaw_as g (members all) (whole g) (members set) (having (whole g) (side o) w) w plan (filled_whole g all are) given_having having_given f (flaw given_all)
+
+-- ---- a flaw of a plan
 
 -- a plan with a flaw does not hold its set
 pub flaw_refutes : (g : Game) (U X : Set) (w : ℕ) (plan : ℕ → ℕ) → w < 2 → (f : Flaw) → FlawIs g U X w plan f → Holds g U X w plan → ⊥
@@ -116,10 +107,6 @@ solves_answer {s} {g} {o} r long a = record {
   wins_1 = solves_wins r a 1 (omega arith);
 }
 
--- what the check has room for it has room for again
-pub tabled_again : {g : Game} {all set left queue ranks set' left' queue' ranks' : List ℕ} → length set' ≡ length set → length left' ≡ length left → length queue' ≡ length queue → length ranks' ≡ length ranks → Tabled g all set left queue ranks → Tabled g all set' left' queue' ranks'
-tabled_again a b c d t = record { are = t.are; many = t.many; wide = t.wide; sets = a ∙ t.sets; lefts = b ∙ t.lefts; queues = omega (arith, t.queues); ranked = omega (arith, t.ranked) }
-
 -- both sides' plans hold: an answer
 pub both_hold : (g : Game) (o : List ℕ) → ((n : ℕ) → n < length g → side o n < 2) → Holds g (whole g) (having (whole g) (side o) 0) 0 (goes o) → Holds g (whole g) (having (whole g) (side o) 1) 1 (goes o) → Solves g (whole g) (side o) (goes o)
 both_hold g o two even odd = record { one_of_two = λ n x. two n (whole_place g n x); won = λ w l. go w l (cases_eq w 0) }
@@ -130,29 +117,20 @@ both_hold g o two even odd = record { one_of_two = λ n x. two n (whole_place g 
 
 -- ---- what `check` promises
 
-pub few_checked : (s : List ℕ) (lent : ℕ) (o : List ℕ) → lent < 65536 + 4 * length s → CheckedPost s lent o Few
-few_checked s lent o h = record { says = tt; few = (λ x. refl, λ e. h); right = λ l. absurd (omega arith); no_game = λ l. absurd (omega arith) }
+pub wrong_checked : (s : List ℕ) (lent : ℕ) (o : List ℕ) (a : Accepts s lent (Ok tt)) (r : Reason) → ReasonIs a.1.0 o r → CheckedPost s lent o (Err (Wrong r))
+wrong_checked s lent o a r is =
+    let refutes = reason_refutes a.1.1 r is in
+    record {
+      says = (a.1.0, a.1.1, is, refutes);
+      few = (λ x. absurd (omega arith), λ e. cc);
+      right = λ l g reads. (λ e. cc, λ b. absurd (refutes (subst (λ (x : Game). IsAnswer x o) (one_game s g a.1.0 reads a.1.1) b)));
+      no_game = λ l. (λ e. cc, λ n. absurd (n a.1.0 a.1.1));
+    }
 
-pub no_game_checked : (s : List ℕ) (lent : ℕ) (o : List ℕ) → 65536 + 4 * length s ≤ lent → ((g : Game) → Reads s g → ⊥) → CheckedPost s lent o NoGame
-no_game_checked s lent o h none = record {
-  says = none;
-  few = (λ x. absurd (omega arith), λ e. let z : ◌≡◌ {A = ℕ} 0 1 = cc in absurd (omega arith));
-  right = λ l g r. absurd (none g r);
-  no_game = λ l. (λ e. none, λ n. refl);
-}
-
-pub wrong_checked : (s : List ℕ) (lent : ℕ) (o : List ℕ) (g : Game) (r : Reason) → 65536 + 4 * length s ≤ lent → Reads s g → ReasonIs g o r → CheckedPost s lent o (Wrong r)
-wrong_checked s lent o g r h reads is = record {
-  says = (g, reads, is, reason_refutes reads r is);
-  few = (λ x. absurd (omega arith), λ e. let z : ◌≡◌ {A = ℕ} 0 1 = cc in absurd (omega arith));
-  right = λ l g' reads'. (λ e. let z : ◌≡◌ {A = ℕ} 0 1 = cc in absurd (omega arith), λ a. absurd (reason_refutes reads r is (subst (λ (x : Game). IsAnswer x o) (one_game s g' g reads' reads) a)));
-  no_game = λ l. (λ e. let z : ◌≡◌ {A = ℕ} 0 1 = cc in absurd (omega arith), λ n. absurd (n g reads));
-}
-
-pub right_checked : (s : List ℕ) (lent : ℕ) (o : List ℕ) (g : Game) → 65536 + 4 * length s ≤ lent → Reads s g → IsAnswer g o → CheckedPost s lent o Right
-right_checked s lent o g h reads a = record {
-  says = (g, reads, a);
-  few = (λ x. absurd (omega arith), λ e. let z : ◌≡◌ {A = ℕ} 0 1 = cc in absurd (omega arith));
-  right = λ l g' reads'. (λ e. subst (λ (x : Game). IsAnswer x o) (one_game s g g' reads reads') a, λ b. refl);
-  no_game = λ l. (λ e. let z : ◌≡◌ {A = ℕ} 0 1 = cc in absurd (omega arith), λ n. absurd (n g reads));
+pub right_checked : (s : List ℕ) (lent : ℕ) (o : List ℕ) (a : Accepts s lent (Ok tt)) → IsAnswer a.1.0 o → CheckedPost s lent o (Ok tt)
+right_checked s lent o a is = record {
+  says = (a.1.0, a.1.1, is);
+  few = (λ x. absurd (omega arith), λ e. cc);
+  right = λ l g reads. (λ e. subst (λ (x : Game). IsAnswer x o) (one_game s a.1.0 g a.1.1 reads) is, λ b. refl);
+  no_game = λ l. (λ e. cc, λ n. absurd (n a.1.0 a.1.1));
 }

@@ -1,6 +1,8 @@
 -- How many of 0 .. n - 1 are in a set.
-use Rattle.std.proofs.Common.{◌≡◌, ℕ, zero, suc, ◌+◌, ◌<◌, ◌≤◌, Bool, true, false, cond, not, ◌&&◌, ◌||◌, eqb, ltb, ◌⊎◌, sym, refl, ap, ◌∙◌, ap₂, inl, inr, add-zero, add-suc, add-one, arith}
+use Rattle.std.proofs.Common.{◌≡◌, ℕ, zero, suc, ◌+◌, ◌<◌, ◌≤◌, Bool, true, false, cond, not, ◌&&◌, ◌||◌, eqb, ltb, ◌⊎◌, List, [], ◌∷◌, length, get_or, sym, refl, ap, ◌∙◌, ap₂, inl, inr, add-zero, add-suc, add-one, arith}
 use Rattle.std.proofs.lemmas.Bool.{cases_eq, cases_lt, both_ways, eq-eqb, ne_eqb, lt-ltb, le-ltb}
+use Rattle.std.specs.List.{count_by}
+use Rattle.std.proofs.lemmas.List.Sums.{sum_by-cons}
 use Rattle.endless.specs.Bits.{count}
 
 -- 1 or 0
@@ -162,3 +164,10 @@ count_more_yes f i e = let a : one_if (f i) ≡ 1 = ap one_if e in omega (arith,
 
 pub count_more_no : (f : ℕ → Bool) (i : ℕ) → f i ≡ false → count f (i + 1) ≡ count f i
 count_more_no f i e = let a : one_if (f i) ≡ 0 = ap one_if e in omega (arith, count_more f i)
+
+-- the elements above 0 of a list
+pub counted_by : (l : List ℕ) → count_by (λ x. ltb 0 x) l ≡ count (λ k. ltb 0 (get_or l k 0)) (length l)
+counted_by [] = sym (count_zero (λ k. ltb 0 (get_or [] k 0)))
+counted_by (x ∷ xs) =
+    sum_by-cons (λ y. one_if (ltb 0 y)) x xs ∙ ap (λ n. one_if (ltb 0 x) + n) (counted_by xs)
+    ∙ sym (count_front (λ k. ltb 0 (get_or (x ∷ xs) k 0)) (length xs))

@@ -6,19 +6,12 @@ use Rattle.endless.specs.Games.{Game, weight}
 use Rattle.endless.specs.Says.{side, goes}
 use Rattle.endless.specs.Sets.{Set, In, Out, Within, having}
 use Rattle.endless.specs.Bits.{members, size, Removed, Least, NoneFrom}
-use Rattle.endless.specs.View.{Shows}
-use Rattle.endless.specs.declared.graph.Places.{Places}
 use Rattle.endless.specs.Pulling.{Passed, Unchanged, Starts}
-use Rattle.endless.specs.Levels.{HeaviestIn, Gathered, GatheredIn, Stays, Given, Taken}
+use Rattle.endless.specs.Levels.{HeaviestIn, GatheredIn, Stays, Given, Taken}
 use Rattle.endless.proofs.Tests.{T_true, true_T}
 use Rattle.endless.proofs.Sets.{in_or_out, having_in, having_within, having_is}
-use Rattle.endless.proofs.Reading.{places_are}
 use Rattle.endless.proofs.SetLaws.{members_below, size_some, some_size}
 use Rattle.endless.proofs.Working.{put_goes, put_side, put_unchanged, unchanged_goes, same_side, removed_out, removed_within, removed_which}
-
--- a place of a game is one of every game that a view shows
-pub in_every : (v : Places) {n : ℕ} {g : Game} → Shows v g → n < length g → (h : Game) → Shows v h → n < length h
-in_every v {n} {g} s l h t = omega (arith, places_are v.words.now g s.reads, places_are v.words.now h t.reads)
 
 -- a member that a scan from `from` on would have found is below it
 pub before : (l : List ℕ) (from n : ℕ) → (from ≤ n → members l n ≡ false) → In (members l) n → n < from
@@ -29,33 +22,31 @@ before l from n none x = go (cases_lt n from)
     go (inr e) = absurd (both_ways (members l n) (none e) (T_true _ x))
 
 -- the heaviest of the members below `from`, if there is one
-pub record Weighing (v : Places) (l : List ℕ) (from h : ℕ) : Type 0 where
-  pub bound : from ≤ 32 * length l
-  pub most : (g : Game) → Shows v g → (n : ℕ) → In (members l) n → n < from → weight g n ≤ h
-  pub some_place : (g : Game) → Shows v g → ((h ≡ 0) × ((n : ℕ) → n < from → Out (members l) n)) ⊎ ((n : ℕ) × In (members l) n × (weight g n ≡ h))
+pub record Weighing (g : Game) (l : List ℕ) (from h : ℕ) : Type 0 where
+  pub most : (n : ℕ) → In (members l) n → n < from → weight g n ≤ h
+  pub some_place : ((h ≡ 0) × ((n : ℕ) → n < from → Out (members l) n)) ⊎ ((n : ℕ) × In (members l) n × (weight g n ≡ h))
 
-pub weighing_more : {v : Places} {l : List ℕ} {from h m w r : ℕ} → Weighing v l from h → Least (members l) from m → ((g : Game) → Shows v g → w ≡ weight g m) → r ≡ max h w → Weighing v l (m + 1) r
-weighing_more {v} {l} {from} {h} {m} {w} {r} k least weighs is = record {
-  bound = omega (arith, members_below l m least.is);
-  most = λ g s n x lt. most g s n x lt (cases_eq n m);
-  some_place = λ g s. inr (some_place g s (k.some_place g s) (cases_lt h w));
+pub weighing_more : {g : Game} {l : List ℕ} {from h m w r : ℕ} → Weighing g l from h → Least (members l) from m → w ≡ weight g m → r ≡ max h w → Weighing g l (m + 1) r
+weighing_more {g} {l} {from} {h} {m} {w} {r} k least weighs is = record {
+  most = λ n x lt. most n x lt (cases_eq n m);
+  some_place = inr (some_place k.some_place (cases_lt h w));
 }
   where
-    most : (g : Game) → Shows v g → (n : ℕ) → In (members l) n → n < m + 1 → (n ≡ m) ⊎ (n ≡ m → ⊥) → weight g n ≤ r
-    most g s n x lt (inl e) = omega (arith, weighs g s, ap (weight g) e)
-    most g s n x lt (inr d) = omega (arith, k.most g s n x (before l from n (λ e. least.none n e (omega arith)) x))
+    most : (n : ℕ) → In (members l) n → n < m + 1 → (n ≡ m) ⊎ (n ≡ m → ⊥) → weight g n ≤ r
+    most n x lt (inl e) = omega (arith, weighs, ap (weight g) e)
+    most n x lt (inr d) = omega (arith, k.most n x (before l from n (λ e. least.none n e (omega arith)) x))
 
-    some_place : (g : Game) → Shows v g → ((h ≡ 0) × ((n : ℕ) → n < from → Out (members l) n)) ⊎ ((n : ℕ) × In (members l) n × (weight g n ≡ h)) → (h < w) ⊎ (w ≤ h) → (n : ℕ) × In (members l) n × (weight g n ≡ r)
-    some_place g s (inl t) c = (m, true_T _ least.is, omega (arith, t.0, weighs g s))
-    some_place g s (inr t) (inl c) = (m, true_T _ least.is, omega (arith, weighs g s))
-    some_place g s (inr t) (inr c) = (t.0, t.1, omega (arith, t.2))
+    some_place : ((h ≡ 0) × ((n : ℕ) → n < from → Out (members l) n)) ⊎ ((n : ℕ) × In (members l) n × (weight g n ≡ h)) → (h < w) ⊎ (w ≤ h) → (n : ℕ) × In (members l) n × (weight g n ≡ r)
+    some_place (inl t) c = (m, true_T _ least.is, omega (arith, t.0, weighs))
+    some_place (inr t) (inl c) = (m, true_T _ least.is, omega (arith, weighs))
+    some_place (inr t) (inr c) = (t.0, t.1, omega (arith, t.2))
 
-pub weighing_all : {v : Places} {l : List ℕ} {from h : ℕ} → Weighing v l from h → NoneFrom (members l) from → (g : Game) → Shows v g → 0 < size l → HeaviestIn g (members l) h
-weighing_all {v} {l} {from} {h} k none g s some = record { most = λ n x. k.most g s n x (before l from n (none n) x); some_place = go (k.some_place g s) }
+pub weighing_all : {g : Game} {l : List ℕ} {from h : ℕ} → Weighing g l from h → NoneFrom (members l) from → 0 < size l → HeaviestIn g (members l) h
+weighing_all {g} {l} {from} {h} k none some = go k.some_place
   where
-    go : ((h ≡ 0) × ((n : ℕ) → n < from → Out (members l) n)) ⊎ ((n : ℕ) × In (members l) n × (weight g n ≡ h)) → (n : ℕ) × In (members l) n × (weight g n ≡ h)
+    go : ((h ≡ 0) × ((n : ℕ) → n < from → Out (members l) n)) ⊎ ((n : ℕ) × In (members l) n × (weight g n ≡ h)) → HeaviestIn g (members l) h
     go (inl t) = let m = size_some l some in absurd (t.1 m.0 (before l from m.0 (none m.0) (true_T _ m.1)) (true_T _ m.1))
-    go (inr t) = t
+    go (inr t) = record { most = λ n x. k.most n x (before l from n (none n) x); some_place = t }
 
 -- of the members of `own` below `from`, those at which f is k have gone from what is left to the queue
 pub record Gathering (f : ℕ → ℕ) (k : ℕ) (own left queue : List ℕ) (from count : ℕ) : Type 0 where
@@ -146,7 +137,7 @@ module _ {f : ℕ → ℕ} {k : ℕ} {own left queue : List ℕ} {from count : �
       apart n x y = so_far.apart n (before left from n (none n) y) (having_is (members own) f k n x) y
 
 -- a place is given to a side
-module _ {v : Places} {w m : ℕ} {U : Set} {out out' : List ℕ} (room : 2 * m + 1 < length out) (t : Given v w m U out out') where
+module _ {g : Game} {w m : ℕ} {U : Set} {out out' : List ℕ} (room : 2 * m + 1 < length out) (t : Given g w m U out out') where
   pub given_same : (n : ℕ) → (n ≡ m → ⊥) → Unchanged out out' n
   given_same n d = subst (λ (o : List ℕ). Unchanged out o n) (sym t.out_is) (put_unchanged out m w t.move room n d)
 
@@ -156,80 +147,67 @@ module _ {v : Places} {w m : ℕ} {U : Set} {out out' : List ℕ} (room : 2 * m 
   pub given_side : side out' m ≡ w
   given_side = ap (λ (o : List ℕ). side o m) t.out_is ∙ put_side out m w t.move room
 
-  pub given_stays : (g : Game) → Shows v g → m < length g → Stays g U m (goes out' m)
-  given_stays g s l = subst (Stays g U m) (sym (ap (λ (o : List ℕ). goes o m) t.out_is ∙ put_goes out m w t.move room)) (t.stays g s l)
+  pub given_stays : Stays g U m (goes out' m)
+  given_stays = subst (Stays g U m) (sym (ap (λ (o : List ℕ). goes o m) t.out_is ∙ put_goes out m w t.move room)) t.stays
 
 -- those of a weight, which are given to a side with a move that stays
-pub record Giving (v : Places) (w h : ℕ) (own part out left queue out' : List ℕ) (from count : ℕ) : Type 0 where
-  pub gathers : (g : Game) → Shows v g → Gathering (weight g) h part left queue from count
+pub record Giving (g : Game) (w h : ℕ) (own part out left queue out' : List ℕ) (from count : ℕ) : Type 0 where
+  pub gathers : Gathering (weight g) h part left queue from count
   pub frame : (n : ℕ) → Out (members part) n → Unchanged out out' n
-  pub labelled : (g : Game) → Shows v g → (n : ℕ) → n < from → In (having (members part) (weight g) h) n → side out' n ≡ w
-  pub stays : (g : Game) → Shows v g → (n : ℕ) → n < from → In (having (members part) (weight g) h) n → Stays g (members own) n (goes out' n)
+  pub labelled : (n : ℕ) → n < from → In (having (members part) (weight g) h) n → side out' n ≡ w
+  pub stays : (n : ℕ) → n < from → In (having (members part) (weight g) h) n → Stays g (members own) n (goes out' n)
 
-module _ {v : Places} {w h : ℕ} {own part out left queue out' : List ℕ} {from count : ℕ} (so_far : Giving v w h own part out left queue out' from count) where
-  module _ {m x : ℕ} (least : Least (members left) from m) (weighs : (g : Game) → Shows v g → x ≡ weight g m) where
-    earlier : (g : Game) → Shows v g → (n : ℕ) → n < m → In (having (members part) (weight g) h) n → n < from
-    earlier g s n l y = go (in_or_out (members left) n)
+module _ {g : Game} {w h : ℕ} {own part out left queue out' : List ℕ} {from count : ℕ} (so_far : Giving g w h own part out left queue out' from count) where
+  module _ {m x : ℕ} (least : Least (members left) from m) (weighs : x ≡ weight g m) where
+    earlier : (n : ℕ) → n < m → In (having (members part) (weight g) h) n → n < from
+    earlier n l y = go (in_or_out (members left) n)
       where
         go : In (members left) n ⊎ Out (members left) n → n < from
         go (inl z) = before left from n (λ e. least.none n e l) z
-        go (inr o) = ((so_far.gathers g s).covers n (having_within (members part) (weight g) h n y) o).0
+        go (inr o) = (so_far.gathers.covers n (having_within (members part) (weight g) h n y) o).0
 
-    pub giving_skip : (x ≡ h → ⊥) → Giving v w h own part out left queue out' (m + 1) count
+    pub giving_skip : (x ≡ h → ⊥) → Giving g w h own part out left queue out' (m + 1) count
     giving_skip d = record {
-      gathers = λ g s. gathering_skip (so_far.gathers g s) least (λ e. d (weighs g s ∙ e));
+      gathers = gathering_skip so_far.gathers least (λ e. d (weighs ∙ e));
       frame = so_far.frame;
-      labelled = λ g s n l y. so_far.labelled g s n (earlier g s n (other g s n l y) y) y;
-      stays = λ g s n l y. so_far.stays g s n (earlier g s n (other g s n l y) y) y;
+      labelled = λ n l y. so_far.labelled n (earlier n (other n l y) y) y;
+      stays = λ n l y. so_far.stays n (earlier n (other n l y) y) y;
     }
       where
-        other : (g : Game) → Shows v g → (n : ℕ) → n < m + 1 → In (having (members part) (weight g) h) n → n < m
-        other g s n l y =
-            let d' : n ≡ m → ⊥ = λ e. d (weighs g s ∙ sym (ap (weight g) e) ∙ having_is (members part) (weight g) h n y) in
-            omega arith
+        other : (n : ℕ) → n < m + 1 → In (having (members part) (weight g) h) n → n < m
+        other n l y = let d' : n ≡ m → ⊥ = λ e. d (weighs ∙ sym (ap (weight g) e) ∙ having_is (members part) (weight g) h n y) in omega arith
 
-    pub giving_take : {left' queue' out'' : List ℕ} → x ≡ h → count < length queue → 2 * m + 1 < length out' → In (members part) m → ((g : Game) → Shows v g → m < length g) → Taken v w m (members own) count left queue out' left' queue' out'' → Giving v w h own part out left' queue' out'' (m + 1) (count + 1)
-    giving_take {left'} {queue'} {out''} is space room mine inside t = record {
-      gathers = λ g s. gathering_take (so_far.gathers g s) least (sym (weighs g s) ∙ is) space t.left_is t.queue_is;
+    pub giving_take : {left' queue' out'' : List ℕ} → x ≡ h → count < length queue → 2 * m + 1 < length out' → In (members part) m → Taken g w m (members own) count left queue out' left' queue' out'' → Giving g w h own part out left' queue' out'' (m + 1) (count + 1)
+    giving_take {left'} {queue'} {out''} is space room mine t = record {
+      gathers = gathering_take so_far.gathers least (sym weighs ∙ is) space t.left_is t.queue_is;
       frame = λ n o.
           let a = so_far.frame n o in
           let b = same n (λ e. o (subst (λ (j : ℕ). In (members part) j) (sym e) mine)) in
           (b.0 ∙ a.0, b.1 ∙ a.1);
-      labelled = λ g s n l y. labelled g s n l y (cases_eq n m);
-      stays = λ g s n l y. stays g s n l y (cases_eq n m);
+      labelled = λ n l y. labelled n l y (cases_eq n m);
+      stays = λ n l y. stays n l y (cases_eq n m);
     }
       where
         same : (n : ℕ) → (n ≡ m → ⊥) → Unchanged out' out'' n
         same = given_same room t.given
 
-        labelled : (g : Game) → Shows v g → (n : ℕ) → n < m + 1 → In (having (members part) (weight g) h) n → (n ≡ m) ⊎ (n ≡ m → ⊥) → side out'' n ≡ w
-        labelled g s n l y (inl e) = ap (side out'') e ∙ given_side room t.given
-        labelled g s n l y (inr d) = same_side out' out'' n (given_length room t.given) (same n d) ∙ so_far.labelled g s n (earlier g s n (omega arith) y) y
+        labelled : (n : ℕ) → n < m + 1 → In (having (members part) (weight g) h) n → (n ≡ m) ⊎ (n ≡ m → ⊥) → side out'' n ≡ w
+        labelled n l y (inl e) = ap (side out'') e ∙ given_side room t.given
+        labelled n l y (inr d) = same_side out' out'' n (given_length room t.given) (same n d) ∙ so_far.labelled n (earlier n (omega arith) y) y
 
-        stays : (g : Game) → Shows v g → (n : ℕ) → n < m + 1 → In (having (members part) (weight g) h) n → (n ≡ m) ⊎ (n ≡ m → ⊥) → Stays g (members own) n (goes out'' n)
-        stays g s n l y (inl e) = subst (λ (j : ℕ). Stays g (members own) j (goes out'' j)) (sym e) (given_stays room t.given g s (inside g s))
-        stays g s n l y (inr d) = subst (Stays g (members own) n) (sym (unchanged_goes out' out'' n (same n d))) (so_far.stays g s n (earlier g s n (omega arith) y) y)
+        stays : (n : ℕ) → n < m + 1 → In (having (members part) (weight g) h) n → (n ≡ m) ⊎ (n ≡ m → ⊥) → Stays g (members own) n (goes out'' n)
+        stays n l y (inl e) = subst (λ (j : ℕ). Stays g (members own) j (goes out'' j)) (sym e) (given_stays room t.given)
+        stays n l y (inr d) = subst (Stays g (members own) n) (sym (unchanged_goes out' out'' n (same n d))) (so_far.stays n (earlier n (omega arith) y) y)
 
-  pub giving_all : NoneFrom (members left) from → (g : Game) → Shows v g → GatheredIn g (members part) (members own) w h left queue out' count
-  giving_all none g s = record {
+  pub giving_all : NoneFrom (members left) from → GatheredIn g (members part) (members own) w h left queue out' count
+  giving_all none = record {
     starts = starts;
-    labelled = λ n y. so_far.labelled g s n (below n y) y;
-    stays = λ n y. so_far.stays g s n (below n y) y;
+    labelled = λ n y. so_far.labelled n (below n y) y;
+    stays = λ n y. so_far.stays n (below n y) y;
   }
     where
       starts : Starts (members part) (having (members part) (weight g) h) left queue count
-      starts = gathering_all (so_far.gathers g s) none
+      starts = gathering_all so_far.gathers none
 
       below : (n : ℕ) → In (having (members part) (weight g) h) n → n < from
-      below n y = ((so_far.gathers g s).covers n (having_within (members part) (weight g) h n y) (starts.apart n y)).0
-
--- gathered of a copy of a set, each has a move into it where it is a subgame
-pub gathered_copied : {g : Game} {part own left queue out : List ℕ} {w h count : ℕ} → GatheredIn g (members part) (members own) w h left queue out count → part ≡ own → Gathered g (members own) w h left queue out count
-gathered_copied {g = g} {own = own} {left = left} {queue = queue} {out = out} {w = w} {h = h} {count = count} gathers copied = record {
-  starts = ga.starts;
-  labelled = ga.labelled;
-  moves = λ sub n y. let t = sub.goes_on n (having_within (members own) (weight g) h n y) in ga.stays n y t.0 t.1 t.2;
-}
-  where
-    ga : GatheredIn g (members own) (members own) w h left queue out count
-    ga = subst (λ (l : List ℕ). GatheredIn g (members l) (members own) w h left queue out count) copied gathers
+      below n y = (so_far.gathers.covers n (having_within (members part) (weight g) h n y) (starts.apart n y)).0

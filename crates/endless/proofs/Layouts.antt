@@ -2,7 +2,7 @@
 use Rattle.std.proofs.Common.{◌≡◌, ℕ, ◌+◌, ◌*◌, ◌≤◌, T, ltb, List, length, sym, subst, mul-le-mul_right, add-mul, arith, ltb→lt, lt→ltb}
 use Rattle.endless.specs.Games.{Game, Reads}
 use Rattle.endless.specs.Says.{side, goes}
-use Rattle.endless.specs.Sets.{Out, Within, whole}
+use Rattle.endless.specs.Sets.{Within, whole}
 use Rattle.endless.specs.Subgames.{Subgame, Solves}
 use Rattle.endless.specs.Bits.{members}
 use Rattle.endless.specs.Graph.{edges}
@@ -31,8 +31,9 @@ module _ (g : Game) (own : List ℕ) (are : (j : ℕ) → members own j ≡ ltb 
   pub filled_subgame : {s : List ℕ} → Reads s g → Subgame g (members own)
   filled_subgame r = subgame_as (whole g) (members own) whole_filled filled_whole (whole_subgame r)
 
-  pub filled_out : (n : ℕ) → length g ≤ n → Out (members own) n
-  filled_out n h x = omega (arith, whole_place g n (filled_whole n x))
+-- the graph that is laid out is the game
+pub laid_reads : {s : List ℕ} {g : Game} (r : Layout) → Reads s g → LaidOut g r → Reads s r.graph
+laid_reads {s} r reads laid = subst (Reads s) (sym laid.is) reads
 
 -- what is laid out is enough to begin with
 pub laid_fresh : {s : List ℕ} {g : Game} (r : Layout) (out : List ℕ) → Reads s g → LaidOut g r → 2 * length g ≤ length out → Fresh g r.all.now out r.queue.now r.escapes.now

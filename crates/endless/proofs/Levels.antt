@@ -7,72 +7,58 @@ use Rattle.endless.specs.Sets.{Set, In, Out, Within, minus, having}
 use Rattle.endless.specs.Subgames.{Subgame, Closed, Solves}
 use Rattle.endless.specs.Bits.{members, count, size}
 use Rattle.endless.specs.Weights.{weighing, occurs}
-use Rattle.endless.specs.View.{Graphs}
-use Rattle.endless.specs.declared.graph.Graph.{Graph}
+use Rattle.endless.specs.View.{Playable}
 use Rattle.endless.specs.Pulling.{Unchanged, Moved, Starts, Attracts}
-use Rattle.endless.specs.Levels.{HeaviestIn, Gathered, GatheredIn, Brought, Peeled, Peels, Reduces, levels, Room}
+use Rattle.endless.specs.Levels.{HeaviestIn, GatheredIn, Brought, Peeled, Peels, Reduces, levels, Room}
 use Rattle.endless.proofs.Tests.{T_true, true_T}
 use Rattle.endless.proofs.Sets.{in_or_out, minus_out, having_in, having_within}
 use Rattle.endless.proofs.CountLaws.{count_more_yes, count_add, some_count}
 use Rattle.endless.proofs.SetLaws.{size_none, size_some, size_sub}
 use Rattle.endless.proofs.Steps.{rest_subgame, subgame_as, closed_subgame}
 use Rattle.endless.proofs.Working.{unchanged_goes, same_side}
-use Rattle.endless.proofs.Turns.{minus_twice, twice_minus, peeled_whole, reduces_none, reduces_then, reduces_all, turn_reduces}
+use Rattle.endless.proofs.Turns.{minus_twice, twice_minus, reduces_none, reduces_then, reduces_all, turn_reduces}
 
 -- targets are not touched by going through the queue
-kept_targets : (U D : Set) (l q o : List ℕ) (k : ℕ) (l' q' o' : List ℕ) (t : ℕ) → Starts U D l q k → Moved l q o k l' q' o' t → (n : ℕ) → In D n → Unchanged o o' n
-kept_targets U D l q o k l' q' o' t st m n d = m.frame n (λ x. absurd (st.apart n d x))
+kept_targets : {U D : Set} {l q o : List ℕ} {k : ℕ} {l' q' o' : List ℕ} {t : ℕ} → Starts U D l q k → Moved l q o k l' q' o' t → (n : ℕ) → In D n → Unchanged o o' n
+kept_targets st m n d = m.frame n (λ x. absurd (st.apart n d x))
 
--- the heaviest places in the queue, each with a move within the set, then their attractor
-brought : (g : Game) (U : Set) (w h : ℕ) (l q o : List ℕ) (k : ℕ) (l' q' o' : List ℕ) (t : ℕ) → length o' ≡ length o → Starts U (having U (weight g) h) l q k → ((n : ℕ) → In (having U (weight g) h) n → side o n ≡ w) → ((n : ℕ) → In (having U (weight g) h) n → May g n (goes o n) × In U (goes o n)) →
-    Moved l q o k l' q' o' t → Attracts g U w (having U (weight g) h) l' q' o' t → Brought g U w h (members l') o'
-brought g U w h l q o k l' q' o' t long st given moves m at = record {
-  within = λ n x. st.rest n (m.less n x);
+-- the heaviest places of a closed part in the queue, each with a move within the part, then their attractor
+pub brought_in : {g : Game} {V U : Set} {w h : ℕ} {l q o : List ℕ} {k : ℕ} {l' q' o' : List ℕ} {t : ℕ} → Subgame g V → Closed g V U → length o' ≡ length o → GatheredIn g U V w h l q o k → Moved l q o k l' q' o' t → Attracts g U w (having U (weight g) h) l' q' o' t → Brought g U w h (members l') o'
+brought_in {g = g} {U = U} {w = w} {h = h} {o = o} {l' = l'} {o' = o'} sub closed long ga m at = record {
+  within = λ n x. ga.starts.rest n (m.less n x);
   rank = at.rank;
   attractor = at.attractor;
   labelled = λ n u x. labelled n u x (in_or_out (having U (weight g) h) n);
-  moves = λ n d. subst (λ (j : ℕ). May g n j × In U j) (sym (unchanged_goes o o' n (same n d))) (moves n d);
+  moves = moves;
 }
   where
     same : (n : ℕ) → In (having U (weight g) h) n → Unchanged o o' n
-    same = kept_targets U (having U (weight g) h) l q o k l' q' o' t st m
+    same = kept_targets ga.starts m
 
     labelled : (n : ℕ) → In U n → Out (members l') n → In (having U (weight g) h) n ⊎ Out (having U (weight g) h) n → side o' n ≡ w
-    labelled n u x (inl d) = same_side o o' n long (same n d) ∙ given n d
+    labelled n u x (inl d) = same_side o o' n long (same n d) ∙ ga.labelled n d
     labelled n u x (inr d) = at.labelled n u d x
 
--- so it is of a subgame
-pub brought_of : (g : Game) (U : Set) (w h : ℕ) (l q o : List ℕ) (k : ℕ) (l' q' o' : List ℕ) (t : ℕ) → Subgame g U → length o' ≡ length o → Gathered g U w h l q o k → Moved l q o k l' q' o' t → Attracts g U w (having U (weight g) h) l' q' o' t → Brought g U w h (members l') o'
-brought_of g U w h l q o k l' q' o' t sub long ga m at = brought g U w h l q o k l' q' o' t long ga.starts ga.labelled (ga.moves sub) m at
-
--- and of a closed part of one
-pub brought_in : (g : Game) (V U : Set) (w h : ℕ) (l q o : List ℕ) (k : ℕ) (l' q' o' : List ℕ) (t : ℕ) → Subgame g V → Closed g V U → length o' ≡ length o → GatheredIn g U V w h l q o k → Moved l q o k l' q' o' t → Attracts g U w (having U (weight g) h) l' q' o' t → Brought g U w h (members l') o'
-brought_in g V U w h l q o k l' q' o' t sub closed long ga m at = brought g U w h l q o k l' q' o' t long ga.starts ga.labelled moves m at
-  where
-    moves : (n : ℕ) → In (having U (weight g) h) n → May g n (goes o n) × In U (goes o n)
+    moves : (n : ℕ) → In (having U (weight g) h) n → May g n (goes o' n) × In U (goes o' n)
     moves n d =
         let u = having_within U (weight g) h n d in
         let t = sub.goes_on n (closed.within n u) in
         let s = ga.stays n d t.0 t.1 t.2 in
-        (s.0, closed.stays n (goes o n) u s.0 s.1)
+        subst (λ (j : ℕ). May g n j × In U j) (sym (unchanged_goes o o' n (same n d))) (s.0, closed.stays n (goes o n) u s.0 s.1)
 
 -- what is lost in the queue, then its attractor
-pub peeled_of : (g : Game) (U X : Set) (w : ℕ) (l q o : List ℕ) (k : ℕ) (l' q' o' : List ℕ) (t : ℕ) → Starts U X l q k → Moved l q o k l' q' o' t → Attracts g U w X l' q' o' t → Peeled g U w X (members l') o o'
-peeled_of g U X w l q o k l' q' o' t st m at = record {
+pub peeled_of : {g : Game} {U X : Set} {w : ℕ} {l q o : List ℕ} {k : ℕ} {l' q' o' : List ℕ} {t : ℕ} → Starts U X l q k → Moved l q o k l' q' o' t → Attracts g U w X l' q' o' t → Peeled g U w X (members l') o o'
+peeled_of st m at = record {
   within = λ n x. st.rest n (m.less n x);
   rank = at.rank;
   attractor = at.attractor;
   labelled = at.labelled;
-  kept = kept_targets U X l q o k l' q' o' t st m;
+  kept = kept_targets st m;
 }
 
 -- nothing is lost
-pub none_lost : (U R : Set) (q : ℕ) (l queue o : List ℕ) → Starts U (having R (side o) q) l queue 0 → (n : ℕ) → In R n → side o n ≡ q → ⊥
-none_lost U R q l queue o st n u e = omega (arith, (st.all n (having_in R (side o) q n u e)).1)
-
--- and all is taken
-pub peels_none : (g : Game) (U : Set) (p q : ℕ) (l queue o l' : List ℕ) → Starts U (having U (side o) q) l queue 0 → ((n : ℕ) → Out (members l') n) → Peels g U U p q (members l') o o
-peels_none g U p q l queue o l' st none = inl (none_lost U U q l queue o st, peeled_whole g U U p (members l') o (λ n x. x) (λ n x. x) none)
+pub none_lost : {U : Set} (R : Set) {q : ℕ} {l queue : List ℕ} (o : List ℕ) {k : ℕ} → k ≡ 0 → Starts U (having R (side o) q) l queue k → (n : ℕ) → In R n → side o n ≡ q → ⊥
+none_lost R {q = q} o zero st n u e = omega (arith, zero, (st.all n (having_in R (side o) q n u e)).1)
 
 -- a place's weight occurs, and so there is a level less below it
 pub weight_occurs : (g : Game) (n h : ℕ) → n < length g → weight g n ≡ h → occurs g h ≡ true
@@ -85,14 +71,14 @@ levels_fall g n h bound l e b =
     omega (arith, more, count_add (occurs g) (h + 1) (bound - (h + 1)), ap (count (occurs g)) rest)
 
 -- what is left when an attractor is taken is a subgame
-pub brought_subgame : (g : Game) (U B : Set) (w h : ℕ) (out : List ℕ) → Subgame g U → Brought g U w h B out → Subgame g B
-brought_subgame g U B w h out sub b = subgame_as (minus U (minus U B)) B (minus_twice U B b.within) (twice_minus U B b.within) (rest_subgame sub b.attractor)
+pub brought_subgame : {g : Game} {U B : Set} {w h : ℕ} {out : List ℕ} → Subgame g U → Brought g U w h B out → Subgame g B
+brought_subgame {U = U} {B = B} sub b = subgame_as (minus U (minus U B)) B (minus_twice U B b.within) (twice_minus U B b.within) (rest_subgame sub b.attractor)
 
 -- the room for the level below
-pub room_below : (g : Game) (bound h w : ℕ) (own rest out queue escapes part left deeper out' queue' escapes' : List ℕ) → Room g bound own rest out queue escapes → Closed g (members own) (members part) → HeaviestIn g (members part) h → length left ≡ length own → length deeper ≡ length rest - length own → length out' ≡ length out → length queue' ≡ length queue → length escapes' ≡ length escapes →
-    Brought g (members part) w h (members left) out' → Room g h left deeper out' queue' escapes'
-room_below g bound h w own rest out queue escapes part left deeper out' queue' escapes' r closed heavy long-l long-d long-o long-q long-e b = record {
-  subgame = brought_subgame g (members part) (members left) w h out' (closed_subgame r.subgame closed) b;
+pub room_below : {g : Game} {bound h w : ℕ} {own rest out queue escapes : List ℕ} (part : List ℕ) {left deeper out' queue' escapes' : List ℕ} → Room g bound own rest out queue escapes → Closed g (members own) (members part) → HeaviestIn g (members part) h → Brought g (members part) w h (members left) out' →
+    length left ≡ length own → length deeper ≡ length rest - length own → length out' ≡ length out → length queue' ≡ length queue → length escapes' ≡ length escapes → Room g h left deeper out' queue' escapes'
+room_below {g = g} {bound = bound} {h = h} {own = own} part {left = left} {deeper = deeper} r closed heavy b long-l long-d long-o long-q long-e = record {
+  subgame = brought_subgame (closed_subgame r.subgame closed) b;
   light = light;
   sized = record { sets = omega (arith, r.sized.sets); answers = omega (arith, r.sized.answers); cursors = omega (arith, r.sized.cursors) };
   queues = omega (arith, r.queues, size_sub left own long-l (λ j x. T_true _ (closed.within j (b.within j (true_T _ x)))));
@@ -116,61 +102,60 @@ room_below g bound h w own rest out queue escapes part left deeper out' queue' e
         omega (arith, wide, split, same, r.sets, long-d)
 
 -- turns so far: what is left, and the answer
-pub record Leveling (v : Graph) (own out own' out' : List ℕ) : Type 0 where
+pub record Leveling (g : Game) (own out own' out' : List ℕ) : Type 0 where
   pub less : Within (members own') (members own)
   pub frame : (n : ℕ) → Out (members own) n → Unchanged out out' n
-  pub reduces : (g : Game) → Graphs v g → Subgame g (members own) → Reduces g (members own) (members own') out'
+  pub reduces : Subgame g (members own) → Reduces g (members own) (members own') out'
 
-pub leveling_none : (v : Graph) (own out : List ℕ) → Leveling v own out own out
-leveling_none v own out = record { less = λ n x. x; frame = λ n x. (refl, refl); reduces = λ g gr sub. reduces_none g (members own) out sub }
+pub leveling_none : (g : Game) (own out : List ℕ) → Leveling g own out own out
+leveling_none g own out = record { less = λ n x. x; frame = λ n x. (refl, refl); reduces = reduces_none g (members own) out }
 
 -- one turn more: the heaviest places of a closed part are brought about (o₁ to o₂), the rest is solved (to o₃), what is lost is peeled off (to o₄)
-pub record Turn (v : Graph) (p q h : ℕ) (own o₁ part left o₂ o₃ own' o₄ : List ℕ) : Type 0 where
+pub record Turn (g : Game) (p q h : ℕ) (own o₁ part left o₂ o₃ own' o₄ : List ℕ) : Type 0 where
+  pub playable : Playable g
   pub sides : (p < 2) × (q < 2) × (q ≡ p → ⊥) × (h % 2 ≡ p)
   pub lengths : (length o₂ ≡ length o₁) × (length o₃ ≡ length o₂) × (length o₄ ≡ length o₃)
   pub inside : Within (members left) (members own)
   pub less : Within (members own') (members own)
-  pub closed : (g : Game) → Graphs v g → Closed g (members own) (members part)
-  pub heaviest : (g : Game) → Graphs v g → HeaviestIn g (members part) h
+  pub closed : Closed g (members own) (members part)
+  pub heaviest : HeaviestIn g (members part) h
   pub first_frame : (n : ℕ) → Out (members own) n → Unchanged o₁ o₂ n
-  pub brought : (g : Game) → Graphs v g → Subgame g (members own) → Brought g (members part) p h (members left) o₂
+  pub brought : Subgame g (members own) → Brought g (members part) p h (members left) o₂
   pub second_frame : (n : ℕ) → Out (members left) n → Unchanged o₂ o₃ n
-  pub solved : (g : Game) → Graphs v g → Subgame g (members left) → Solves g (members left) (side o₃) (goes o₃)
+  pub solved : Subgame g (members left) → Solves g (members left) (side o₃) (goes o₃)
   pub third_frame : (n : ℕ) → Out (members own) n → Unchanged o₃ o₄ n
-  pub peels : (g : Game) → Graphs v g → Subgame g (members own) → Peels g (members own) (members part) p q (members own') o₃ o₄
+  pub peels : Subgame g (members own) → Peels g (members own) (members part) p q (members own') o₃ o₄
 
 pub then_unchanged : (a b c : List ℕ) (n : ℕ) → Unchanged a b n → Unchanged b c n → Unchanged a c n
 then_unchanged a b c n u v = (v.0 ∙ u.0, v.1 ∙ u.1)
 
-pub leveling_more : (v : Graph) (own out own₁ o₁ part left o₂ o₃ own₂ o₄ : List ℕ) (p q h : ℕ) → Leveling v own out own₁ o₁ → Turn v p q h own₁ o₁ part left o₂ o₃ own₂ o₄ → Leveling v own out own₂ o₄
-leveling_more v own out own₁ o₁ part left o₂ o₃ own₂ o₄ p q h k t = record {
+pub leveling_more : {g : Game} {own out own₁ o₁ part left o₂ o₃ own₂ o₄ : List ℕ} {p q h : ℕ} → Leveling g own out own₁ o₁ → Turn g p q h own₁ o₁ part left o₂ o₃ own₂ o₄ → Leveling g own out own₂ o₄
+leveling_more {g} {own} {out} {own₁} {o₁} {part} {left} {o₂} {o₃} {own₂} {o₄} {p} {q} {h} k t = record {
   less = λ n x. k.less n (t.less n x);
   frame = λ n x. then_unchanged out o₁ o₄ n (k.frame n x) (frame n (λ y. x (k.less n y)));
-  reduces = λ g gr sub.
-      let before = k.reduces g gr sub in
+  reduces = λ sub.
+      let before = k.reduces sub in
+      let brought = t.brought before.rest in
       reduces_then g (members own) (members own₁) (members own₂) o₁ o₄ t.less (t.lengths.2 ∙ t.lengths.1 ∙ t.lengths.0) frame before
-      (turn_reduces gr.shows.reads (members own₁) (members part) (members left) (members own₂) p q h o₂ o₃ o₄ t.sides.0 t.sides.1 t.sides.2 t.sides.3 before.rest (t.closed g gr) (t.heaviest g gr) (t.brought g gr before.rest)
-      t.lengths.1 t.second_frame (t.solved g gr (left_subgame g (closed_subgame before.rest (t.closed g gr)) (t.brought g gr before.rest))) t.lengths.2 (t.peels g gr before.rest));
+      (turn_reduces t.playable (members own₁) (members part) (members left) (members own₂) p q h o₂ o₃ o₄ t.sides.0 t.sides.1 t.sides.2 t.sides.3 before.rest t.closed t.heaviest brought t.lengths.1 t.second_frame
+      (t.solved (brought_subgame (closed_subgame before.rest t.closed) brought)) t.lengths.2 (t.peels before.rest));
 }
   where
     frame : (n : ℕ) → Out (members own₁) n → Unchanged o₁ o₄ n
     frame n x = then_unchanged o₁ o₂ o₄ n (t.first_frame n x) (then_unchanged o₂ o₃ o₄ n (t.second_frame n (λ y. x (t.inside n y))) (t.third_frame n x))
 
-    left_subgame : (g : Game) → Subgame g (members part) → Brought g (members part) p h (members left) o₂ → Subgame g (members left)
-    left_subgame g sub b = brought_subgame g (members part) (members left) p h o₂ sub b
-
-pub leveling_all : (v : Graph) (own out own' out' : List ℕ) → size own' ≡ 0 → Leveling v own out own' out' → (g : Game) → Graphs v g → Subgame g (members own) → Solves g (members own) (side out') (goes out')
-leveling_all v own out own' out' none k g gr sub = reduces_all g (members own) (members own') out' (λ n x. both_ways (members own' n) (size_none own' none n) (T_true _ x)) (k.reduces g gr sub)
+pub leveling_all : {g : Game} {own out own' out' : List ℕ} → size own' ≡ 0 → Leveling g own out own' out' → Subgame g (members own) → Solves g (members own) (side out') (goes out')
+leveling_all {g} {own} {out} {own'} {out'} none k sub = reduces_all g (members own) (members own') out' (λ n x. both_ways (members own' n) (size_none own' none n) (T_true _ x)) (k.reduces sub)
 
 -- nothing is left to solve
-pub solves_none : (v : Graph) (left out : List ℕ) → size left ≡ 0 → (g : Game) → Graphs v g → Subgame g (members left) → Solves g (members left) (side out) (goes out)
-solves_none v left out none g gr sub = leveling_all v left out left out none (leveling_none v left out) g gr sub
+pub solves_none : (g : Game) (left out : List ℕ) → size left ≡ 0 → Subgame g (members left) → Solves g (members left) (side out) (goes out)
+solves_none g left out none = leveling_all none (leveling_none g left out)
 
 -- the room of a level is that of what is left in it
-pub room_now : (v : Graph) (g : Game) (bound : ℕ) (own rest out queue escapes own' rest' out' queue' escapes' : List ℕ) → Graphs v g → Room g bound own rest out queue escapes → Leveling v own out own' out' →
+pub room_now : {g : Game} {bound : ℕ} {own rest out queue escapes own' rest' out' queue' escapes' : List ℕ} → Room g bound own rest out queue escapes → Leveling g own out own' out' →
     length own' ≡ length own → length rest' ≡ length rest → length out' ≡ length out → length queue' ≡ length queue → length escapes' ≡ length escapes → Room g bound own' rest' out' queue' escapes'
-room_now v g bound own rest out queue escapes own' rest' out' queue' escapes' gr r k long-w long-r long-o long-q long-e = record {
-  subgame = (k.reduces g gr r.subgame).rest;
+room_now {g = g} {bound = bound} {own = own} {own' = own'} r k long-w long-r long-o long-q long-e = record {
+  subgame = (k.reduces r.subgame).rest;
   light = λ n x. r.light n (k.less n x);
   sized = record { sets = omega (arith, r.sized.sets); answers = omega (arith, r.sized.answers); cursors = omega (arith, r.sized.cursors) };
   queues = omega (arith, r.queues, size_sub own' own long-w (λ j x. T_true _ (k.less j (true_T _ x))));
@@ -179,21 +164,21 @@ room_now v g bound own rest out queue escapes own' rest' out' queue' escapes' gr
 }
 
 -- the weights below are lighter
-pub room_light : (g : Game) (bound h : ℕ) (own rest out queue escapes part : List ℕ) → Room g bound own rest out queue escapes → Closed g (members own) (members part) → HeaviestIn g (members part) h → h < bound
-room_light g bound h own rest out queue escapes part r closed heavy = let t = heavy.some_place in omega (arith, r.light t.0 (closed.within t.0 t.1), t.2)
+pub room_light : {g : Game} {bound h : ℕ} {own rest out queue escapes : List ℕ} (part : List ℕ) → Room g bound own rest out queue escapes → Closed g (members own) (members part) → HeaviestIn g (members part) h → h < bound
+room_light part r closed heavy = let t = heavy.some_place in omega (arith, r.light t.0 (closed.within t.0 t.1), t.2)
 
 -- where a place is left there is room for the set of the level below
-pub room_set : (g : Game) (bound : ℕ) (own rest out queue escapes : List ℕ) → Room g bound own rest out queue escapes → 0 < size own → length own ≤ length rest
-room_set g bound own rest out queue escapes r some =
+pub room_set : {g : Game} {bound : ℕ} {own rest out queue escapes : List ℕ} → Room g bound own rest out queue escapes → 0 < size own → length own ≤ length rest
+room_set {g = g} {bound = bound} {own = own} r some =
     let t = size_some own some in
     let mine = true_T _ t.1 in
     let fall = levels_fall g t.0 (weight g t.0) bound (r.subgame.places t.0 mine) refl (r.light t.0 mine) in
     omega (arith, mul-le-mul_right (length own) fall, add-mul (levels g (weight g t.0)) 1 (length own), r.sets)
 
 -- how many places a part has
-pub part_counted : (list : List ℕ) (many r k : ℕ) → (length list ≡ 0 → many ≡ k) × (0 < length list → length list ≡ k) → (length list ≡ 0 → r ≡ many) × (0 < length list → r ≡ length list) → r ≡ k
-part_counted list many r k t u = go (cases_eq (length list) 0)
+pub part_counted : {n many r k : ℕ} → (n ≡ 0 → many ≡ k) × (0 < n → n ≡ k) → (n ≡ 0 → r ≡ many) × (0 < n → r ≡ n) → r ≡ k
+part_counted {n} {many} {r} {k} t u = go (cases_eq n 0)
   where
-    go : (length list ≡ 0) ⊎ (length list ≡ 0 → ⊥) → r ≡ k
+    go : (n ≡ 0) ⊎ (n ≡ 0 → ⊥) → r ≡ k
     go (inl e) = u.0 e ∙ t.0 e
-    go (inr d) = let some : 0 < length list = omega arith in u.1 some ∙ t.1 some
+    go (inr d) = let some : 0 < n = omega arith in u.1 some ∙ t.1 some

@@ -27,6 +27,7 @@ pub mod Reading
 mod Tallies
 mod PositionLaws
 mod Starts
+pub mod View
 mod Pulling
 pub mod Among
 mod Lists

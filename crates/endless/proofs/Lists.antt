@@ -91,9 +91,6 @@ abbrev pub Enters : List ℕ → ℕ → List ℕ → List ℕ → ℕ → List 
 Enters targets v ends₀ preds₀ k ends preds =
     (f : ℕ → ℕ) (n : ℕ) (D : ℕ → List ℕ) → Filling f n ends₀ preds₀ D → Room f n targets ends₀ preds₀ D → Filling f n ends preds (entered (take k targets) v D)
 
-pub enters_start : (targets : List ℕ) (v : ℕ) (ends preds : List ℕ) → Enters targets v ends preds 0 ends preds
-enters_start targets v ends preds f n D fill room = fill
-
 entered_length : (targets : List ℕ) (v : ℕ) (D : ℕ → List ℕ) (m : ℕ) → length (entered targets v D m) ≡ times m targets + length (D m)
 entered_length targets v D m = length-append (replicate (times m targets) v) (D m) ∙ ap (λ a. a + length (D m)) (length-replicate (times m targets) v)
 

@@ -1,18 +1,19 @@
 -- A plan at one place of a set: it stays there, or what is wrong.
-use Rattle.std.proofs.Common.{◌≡◌, ℕ, ◌+◌, ◌*◌, ◌<◌, true, false, ◌⊎◌, List, length, get_or, sym, ap, ◌∙◌, subst, inl, inr, arith}
-use Rattle.std.proofs.lemmas.Bool.{cases_eq, both_ways}
+use Rattle.std.proofs.Common.{◌≡◌, ℕ, ◌+◌, ◌*◌, ◌<◌, true, false, nat_eq, List, length, get_or, sym, ap, ◌∙◌, subst}
+use Rattle.std.specs.List.{HoldsAt}
+use Rattle.std.proofs.lemmas.Bool.{both_ways, eqb-true}
 use Rattle.endless.specs.Games.{Game, whose, Among, May}
 use Rattle.endless.specs.Says.{goes}
 use Rattle.endless.specs.Sets.{Set, In, Out}
-use Rattle.endless.specs.Bits.{members, Least, NoneFrom}
 use Rattle.endless.specs.Graph.{moves}
-use Rattle.endless.specs.View.{Shows}
-use Rattle.endless.specs.declared.graph.Places.{Places}
 use Rattle.endless.specs.Flaws.{StaysAt}
 use Rattle.endless.proofs.Tests.{T_true, true_T}
-use Rattle.endless.proofs.Among.{among_at}
-use Rattle.endless.proofs.Gathering.{before}
+use Rattle.endless.proofs.Among.{among_at, at_among}
 use Rattle.endless.proofs.Working.{goes_at}
+
+-- where an item of a list is m, m is among them
+pub found_among : {m : ℕ} {l : List ℕ} → (k : ℕ) × (k < length l) × HoldsAt (λ y. nat_eq y m ≡ true) l k → Among m l
+found_among {m} {l} t = subst (λ (y : ℕ). Among y l) (eqb-true _ _ (t.2 0)) (at_among l t.0 t.1)
 
 -- where none of a list's items is m, it is not among them
 pub not_among : (m : ℕ) (l : List ℕ) → ((k : ℕ) → k < length l → get_or l k 0 ≡ m → ⊥) → Among m l → ⊥
@@ -41,17 +42,3 @@ stays_other {g} {U} {X} {w} {plan} {n} l e d all = record {
       let t = among_at m l (subst (λ (y : List ℕ). Among m y) (sym e) a) in
       true_T _ (ap X (sym t.2) ∙ all t.0 t.1 (ap U t.2 ∙ T_true _ u));
 }
-
--- the places of a set, one after the other
-abbrev pub Stayed : Places → ℕ → List ℕ → List ℕ → List ℕ → ℕ → Type 0
-Stayed v w within set answer from = (g : Game) → Shows v g → (n : ℕ) → n < from → In (members set) n → StaysAt g (members within) (members set) w (goes answer) n
-
-pub stayed_more : (v : Places) (w : ℕ) (within set answer : List ℕ) (from m : ℕ) → Stayed v w within set answer from → Least (members set) from m → ((g : Game) → Shows v g → StaysAt g (members within) (members set) w (goes answer) m) → Stayed v w within set answer (m + 1)
-stayed_more v w within set answer from m so_far least here g s n l x = go (cases_eq n m)
-  where
-    go : (n ≡ m) ⊎ (n ≡ m → ⊥) → StaysAt g (members within) (members set) w (goes answer) n
-    go (inl e) = subst (λ (j : ℕ). StaysAt g (members within) (members set) w (goes answer) j) (sym e) (here g s)
-    go (inr e) = so_far g s n (before set from n (λ h. least.none n h (omega arith)) x) x
-
-pub stayed_all : (v : Places) (w : ℕ) (within set answer : List ℕ) (from : ℕ) → Stayed v w within set answer from → NoneFrom (members set) from → (g : Game) → Shows v g → (n : ℕ) → In (members set) n → StaysAt g (members within) (members set) w (goes answer) n
-stayed_all v w within set answer from so_far none g s n x = so_far g s n (before set from n (none n) x) x

@@ -1,16 +1,12 @@
 -- Rounds that the other side wins: each has a heaviest place, from which it can be gone round.
-use Rattle.std.proofs.Common.{◌≡◌, ℕ, ◌+◌, ◌%◌, ◌<◌, ◌≤◌, max, ◌⊎◌, List, [], ◌∷◌, sym, refl, ap, ◌∙◌, subst, inl, inr, arith}
+use Rattle.std.proofs.Common.{◌≡◌, ℕ, ◌%◌, ◌<◌, ◌≤◌, max, ◌⊎◌, List, [], ◌∷◌, sym, refl, ap, ◌∙◌, subst, inl, inr, arith}
 use Rattle.std.proofs.lemmas.Bool.{cases_eq, cases_lt}
-use Rattle.endless.specs.Games.{Game, whose, weight, Among, first, later, May}
-use Rattle.endless.specs.Says.{Round, last, then1, heaviest, goes}
+use Rattle.endless.specs.Games.{Game, Reads, whose, weight, Among, first, later, May}
+use Rattle.endless.specs.Says.{Round, last, then1, heaviest}
 use Rattle.endless.specs.Sets.{Set, In, Each}
-use Rattle.endless.specs.Bits.{members, Least, NoneFrom}
-use Rattle.endless.specs.View.{Graphs}
-use Rattle.endless.specs.declared.graph.Graph.{Graph}
 use Rattle.endless.specs.Flaws.{Walk, NoRoundOf, RoundOf, RoundsWon, LosesRound}
 use Rattle.endless.proofs.Places.{is_other, weight_below}
 use Rattle.endless.proofs.Sets.{each_map, each_both, each_at, among_weighs, each_weighs}
-use Rattle.endless.proofs.Gathering.{before}
 
 module _ (g : Game) (w : ℕ) (plan : ℕ → ℕ) (P : ℕ → Type 0) where
   -- steps from n to m through places of which P is so
@@ -86,38 +82,12 @@ walk_round g X w plan n l d t = record {
 pub found_loses : (g : Game) (X : Set) (w : ℕ) (plan : ℕ → ℕ) (k n : ℕ) → w < 2 → (k % 2 ≡ w → ⊥) → RoundOf g X w plan k n → In X n × LosesRound g X w plan n (weight g n)
 found_loses g X w plan k n l d t = (t.0, walk_round g X w plan n l (λ q. d (ap (λ (y : ℕ). y % 2) (sym t.1) ∙ q)) (subst (λ (j : ℕ). Walk g X w plan j n n) (sym t.1) t.2))
 
--- ---- the places of one weight, one after the other
-
-abbrev pub SearchedTo : Graph → ℕ → List ℕ → ℕ → List ℕ → ℕ → Type 0
-SearchedTo v w answer k set from = (g : Game) → Graphs v g → (n : ℕ) → n < from → In (members set) n → weight g n ≡ k → Walk g (members set) w (goes answer) k n n → ⊥
-
-pub searched_more : (v : Graph) (w : ℕ) (answer : List ℕ) (k : ℕ) (set : List ℕ) (from m : ℕ) → SearchedTo v w answer k set from → Least (members set) from m → ((g : Game) → Graphs v g → weight g m ≡ k → Walk g (members set) w (goes answer) k m m → ⊥) → SearchedTo v w answer k set (m + 1)
-searched_more v w answer k set from m so_far least none g gr n l x q t = go (cases_eq n m)
-  where
-    go : (n ≡ m) ⊎ (n ≡ m → ⊥) → ⊥
-    go (inl e) = none g gr (subst (λ (j : ℕ). weight g j ≡ k) e q) (subst (λ (j : ℕ). Walk g (members set) w (goes answer) k j j) e t)
-    go (inr e) = so_far g gr n (before set from n (λ h. least.none n h (omega arith)) x) x q t
-
-pub searched_all : (v : Graph) (w : ℕ) (answer : List ℕ) (k : ℕ) (set : List ℕ) (from : ℕ) → SearchedTo v w answer k set from → NoneFrom (members set) from → (g : Game) → Graphs v g → NoRoundOf g (members set) w (goes answer) k
-searched_all v w answer k set from so_far none g gr n x q t = so_far g gr n (before set from n (none n) x) x q t
-
--- ---- the weights, one after the other
-
-abbrev pub Cleared : Graph → ℕ → List ℕ → List ℕ → ℕ → Type 0
-Cleared v w answer set bound = (g : Game) → Graphs v g → (k : ℕ) → k < bound → (k % 2 ≡ w → ⊥) → NoRoundOf g (members set) w (goes answer) k
-
-pub cleared_more : (v : Graph) (w : ℕ) (answer set : List ℕ) (bound : ℕ) → Cleared v w answer set bound → ((g : Game) → Graphs v g → (bound % 2 ≡ w → ⊥) → NoRoundOf g (members set) w (goes answer) bound) → Cleared v w answer set (bound + 1)
-cleared_more v w answer set bound so_far here g gr k l d = go (cases_eq k bound)
-  where
-    go : (k ≡ bound) ⊎ (k ≡ bound → ⊥) → NoRoundOf g (members set) w (goes answer) k
-    go (inl e) = subst (λ (j : ℕ). NoRoundOf g (members set) w (goes answer) j) (sym e) (here g gr (λ q. d (ap (λ (j : ℕ). j % 2) e ∙ q)))
-    go (inr e) = so_far g gr k (omega arith) d
-
-pub cleared_all : (v : Graph) (w : ℕ) (answer set : List ℕ) (bound : ℕ) → 256 ≤ bound → Cleared v w answer set bound → (g : Game) → Graphs v g → RoundsWon g (members set) w (goes answer)
-cleared_all v w answer set bound all so_far g gr n ns e r = go (cases_eq (heaviest g ns % 2) w)
+-- where there is none of any weight of that kind, all rounds are the side's
+pub cleared_all : {s : List ℕ} {g : Game} (X : Set) (w : ℕ) (plan : ℕ → ℕ) → Reads s g → ((k : ℕ) → k < 256 → (k % 2 ≡ w → ⊥) → NoRoundOf g X w plan k) → RoundsWon g X w plan
+cleared_all {s} {g} X w plan reads cleared n ns e r = go (cases_eq (heaviest g ns % 2) w)
   where
     go : (heaviest g ns % 2 ≡ w) ⊎ (heaviest g ns % 2 ≡ w → ⊥) → heaviest g ns % 2 ≡ w
     go (inl q) = q
     go (inr d) =
-        let t = round_walk g (members set) w (goes answer) n ns e r in
-        absurd (so_far g gr (weight g t.0) (omega (arith, weight_below gr.shows.reads t.0)) (λ q. d (ap (λ (y : ℕ). y % 2) (sym t.2) ∙ q)) t.0 t.1 refl t.3)
+        let t = round_walk g X w plan n ns e r in
+        absurd (cleared (weight g t.0) (weight_below reads t.0) (λ q. d (ap (λ (y : ℕ). y % 2) (sym t.2) ∙ q)) t.0 t.1 refl t.3)

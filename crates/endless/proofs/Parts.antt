@@ -2,21 +2,19 @@
 use Rattle.std.proofs.Common.{◌≡◌, ℕ, ◌+◌, ◌<◌, ◌≤◌, Bool, true, false, ◌||◌, T, ◌⊎◌, List, length, get_or, set, sym, refl, ap, ◌∙◌, subst, inl, inr, arith}
 use Rattle.std.proofs.lemmas.List.{get_or-set_same, get_or-set_other}
 use Rattle.std.proofs.lemmas.Bool.{cases_eq, cases_lt, both_ways, eq-eqb, ne_eqb}
-use Rattle.endless.specs.Games.{Game, May}
+use Rattle.endless.specs.Games.{Game, Among, May}
 use Rattle.endless.specs.Sets.{In, Within}
 use Rattle.endless.specs.Subgames.{Closed}
 use Rattle.endless.specs.Bits.{members, size, Inserted}
 use Rattle.endless.specs.Graph.{moves}
-use Rattle.endless.specs.View.{Shows}
-use Rattle.endless.specs.declared.graph.Places.{Places}
 use Rattle.endless.specs.Pulling.{Passed}
-use Rattle.endless.specs.Parts.{Listing, Spread, Part, PartTaken, Covers}
+use Rattle.endless.specs.Parts.{Listing, Spread, PartTaken, Covers}
 use Rattle.endless.proofs.Tests.{T_true, true_T}
 use Rattle.endless.proofs.Among.{among_at}
-use Rattle.endless.proofs.SetLaws.{size_sub, size_sub_lt, size_none, some_size}
+use Rattle.endless.proofs.SetLaws.{size_sub, size_sub_lt, size_none}
 
 -- a set with a place more
-module _ (l : List ℕ) (k : ℕ) (r : List ℕ) (ins : Inserted l k r) where
+module _ {l : List ℕ} {k : ℕ} {r : List ℕ} (ins : Inserted l k r) where
   pub inserted_in : In (members r) k
   inserted_in = true_T _ (ins.are k ∙ ap (λ (b : Bool). b || members l k) (eq-eqb k k refl))
 
@@ -37,41 +35,33 @@ module _ (l : List ℕ) (k : ℕ) (r : List ℕ) (ins : Inserted l k r) where
       go (inl e) = inl e
       go (inr d) = inr (subst T (inserted_else n d) x)
 
--- nothing listed yet, nothing more, twice
-pub listing_none : (own part queue : List ℕ) → size part ≡ 0 → Listing own part queue 0
-listing_none own part queue none = record {
+-- nothing listed yet, nothing more
+pub listing_none : {own part queue : List ℕ} → size part ≡ 0 → Listing own part queue 0
+listing_none {part = part} none = record {
   inside = λ n x. absurd (both_ways (members part n) (size_none part none n) (T_true _ x));
   counts = sym none;
   queued = λ j h. absurd (omega arith);
   listed = λ n x. absurd (both_ways (members part n) (size_none part none n) (T_true _ x));
 }
 
-pub spread_none : (own part queue : List ℕ) (count : ℕ) → Listing own part queue count → Spread own part queue count part queue count
-spread_none own part queue count k = record { lists = k; grows = omega arith; more = λ n x. x; front = λ j h. refl }
-
-pub spread_then : (own p q : List ℕ) (c : ℕ) (p' q' : List ℕ) (c' : ℕ) (p'' q'' : List ℕ) (c'' : ℕ) → Spread own p q c p' q' c' → Spread own p' q' c' p'' q'' c'' → Spread own p q c p'' q'' c''
-spread_then own p q c p' q' c' p'' q'' c'' a b = record {
-  lists = b.lists;
-  grows = omega (arith, a.grows, b.grows);
-  more = λ n x. b.more n (a.more n x);
-  front = λ j h. b.front j (omega (arith, a.grows)) ∙ a.front j h;
-}
+pub spread_none : {own part queue : List ℕ} {count : ℕ} → Listing own part queue count → Spread own part queue count part queue count
+spread_none k = record { lists = k; grows = omega arith; more = λ n x. x; front = λ j h. refl }
 
 -- a place of the set that is not in the part: there is room for it, and it comes
-module _ (own part queue : List ℕ) (count place : ℕ) (same : length part ≡ length own) (room : size own ≤ length queue) (k : Listing own part queue count) (mine : members own place ≡ true) (new : members part place ≡ false) where
+module _ {own part queue : List ℕ} {count : ℕ} (place : ℕ) (same : length part ≡ length own) (room : size own ≤ length queue) (k : Listing own part queue count) (mine : members own place ≡ true) (new : members part place ≡ false) where
   pub spread_room : count < length queue
   spread_room = omega (arith, k.counts, size_sub_lt part own place same (λ j x. T_true _ (k.inside j (true_T _ x))) mine new)
 
-  pub spread_one : (part' queue' : List ℕ) → Inserted part place part' → queue' ≡ set queue count place → Spread own part queue count part' queue' (count + 1)
-  spread_one part' queue' ins q = record {
+  pub spread_one : {part' queue' : List ℕ} → Inserted part place part' → queue' ≡ set queue count place → Spread own part queue count part' queue' (count + 1)
+  spread_one {part'} {queue'} ins q = record {
     lists = record {
-      inside = λ n x. inside n (inserted_which part place part' ins n x);
+      inside = λ n x. inside n (inserted_which ins n x);
       counts = omega (arith, k.counts, ins.grows new);
       queued = λ j h. queued j h (cases_lt j count);
-      listed = λ n x. listed n (inserted_which part place part' ins n x);
+      listed = λ n x. listed n (inserted_which ins n x);
     };
     grows = omega arith;
-    more = inserted_more part place part' ins;
+    more = inserted_more ins;
     front = front;
   }
     where
@@ -86,8 +76,8 @@ module _ (own part queue : List ℕ) (count place : ℕ) (same : length part ≡
       inside n (inr x) = k.inside n x
 
       queued : (j : ℕ) → j < count + 1 → (j < count) ⊎ (count ≤ j) → In (members part') (get_or queue' j 0)
-      queued j h (inl l) = subst (λ (n : ℕ). In (members part') n) (sym (front j l)) (inserted_more part place part' ins (get_or queue j 0) (k.queued j l))
-      queued j h (inr l) = subst (λ (n : ℕ). In (members part') n) (sym (ap (λ (i : ℕ). get_or queue' i 0) (let e : j ≡ count = omega arith in e) ∙ last)) (inserted_in part place part' ins)
+      queued j h (inl l) = subst (λ (n : ℕ). In (members part') n) (sym (front j l)) (inserted_more ins (get_or queue j 0) (k.queued j l))
+      queued j h (inr l) = subst (λ (n : ℕ). In (members part') n) (sym (ap (λ (i : ℕ). get_or queue' i 0) (let e : j ≡ count = omega arith in e) ∙ last)) (inserted_in ins)
 
       listed : (n : ℕ) → (n ≡ place) ⊎ In (members part) n → Passed queue' (count + 1) n
       listed n (inl e) = (count, omega arith, last ∙ sym e)
@@ -98,80 +88,45 @@ pub record Over (own part queue : List ℕ) (count : ℕ) (items : List ℕ) (i 
   pub spread : Spread own part queue count part' queue' count'
   pub holds : (k : ℕ) → k < i → In (members own) (get_or items k 0) → In (members part') (get_or items k 0)
 
-pub over_none : (own part queue : List ℕ) (count : ℕ) (items : List ℕ) → Listing own part queue count → Over own part queue count items 0 part queue count
-over_none own part queue count items k = record { spread = spread_none own part queue count k; holds = λ j h. absurd (omega arith) }
-
-pub over_more : (own part queue : List ℕ) (count : ℕ) (items : List ℕ) (i : ℕ) (p q : List ℕ) (c : ℕ) (p' q' : List ℕ) (c' : ℕ) → Over own part queue count items i p q c → Spread own p q c p' q' c' → (In (members own) (get_or items i 0) → In (members p') (get_or items i 0)) → Over own part queue count items (i + 1) p' q' c'
-over_more own part queue count items i p q c p' q' c' o s here = record {
-  spread = spread_then own part queue count p q c p' q' c' o.spread s;
-  holds = λ k h x. go k h x (cases_lt k i);
-}
-  where
-    go : (k : ℕ) → k < i + 1 → In (members own) (get_or items k 0) → (k < i) ⊎ (i ≤ k) → In (members p') (get_or items k 0)
-    go k h x (inl l) = s.more _ (o.holds k l x)
-    go k h x (inr l) = subst (λ (j : ℕ). In (members own) (get_or items j 0) → In (members p') (get_or items j 0)) (let e : i ≡ k = omega arith in e) here x
-
 -- what can be come to from a place: the queue is gone through up to `head`
-pub record Going (v : Places) (start : ℕ) (own part queue : List ℕ) (head tail : ℕ) : Type 0 where
+pub record Going (g : Game) (start : ℕ) (own part queue : List ℕ) (head tail : ℕ) : Type 0 where
   pub lists : Listing own part queue tail
   pub order : head ≤ tail
   pub starts : In (members part) start
-  pub passed : (g : Game) → Shows v g → (j : ℕ) → j < head → (m : ℕ) → May g (get_or queue j 0) m → In (members own) m → In (members part) m
+  pub passed : (j : ℕ) → j < head → (m : ℕ) → May g (get_or queue j 0) m → In (members own) m → In (members part) m
 
-pub going_none : (v : Places) (start : ℕ) (own p q p' q' : List ℕ) (tail : ℕ) → In (members own) start → Spread own p q 0 p' q' tail → (In (members own) start → In (members p') start) → Going v start own p' q' 0 tail
-going_none v start own p q p' q' tail mine s here = record { lists = s.lists; order = omega arith; starts = here mine; passed = λ g sh j h. absurd (omega arith) }
+pub going_below : {g : Game} {start : ℕ} {own part queue : List ℕ} {head tail : ℕ} → length part ≡ length own → Going g start own part queue head tail → tail ≤ size own
+going_below {own = own} {part = part} same k = omega (arith, k.lists.counts, size_sub part own same (λ j x. T_true _ (k.lists.inside j (true_T _ x))))
 
-pub going_below : (v : Places) (start : ℕ) (own part queue : List ℕ) (head tail : ℕ) → length part ≡ length own → Going v start own part queue head tail → tail ≤ size own
-going_below v start own part queue head tail same k = omega (arith, k.lists.counts, size_sub part own same (λ j x. T_true _ (k.lists.inside j (true_T _ x))))
-
-pub going_more : (v : Places) (start : ℕ) (own part queue : List ℕ) (head tail : ℕ) (items part' queue' : List ℕ) (next tail' : ℕ) → head < tail → next ≡ head + 1 → ((g : Game) → Shows v g → items ≡ moves g (get_or queue head 0)) → Going v start own part queue head tail → Spread own part queue tail part' queue' tail' →
-    ((k : ℕ) → k < length items → In (members own) (get_or items k 0) → In (members part') (get_or items k 0)) → Going v start own part' queue' next tail'
-going_more v start own part queue head tail items part' queue' next tail' h is are k s holds = record {
+pub going_more : {g : Game} {start : ℕ} {own part queue : List ℕ} {head tail : ℕ} {items part' queue' : List ℕ} {next tail' : ℕ} → head < tail → next ≡ head + 1 → items ≡ moves g (get_or queue head 0) → Going g start own part queue head tail → Spread own part queue tail part' queue' tail' →
+    ((k : ℕ) → k < length items → In (members own) (get_or items k 0) → In (members part') (get_or items k 0)) → Going g start own part' queue' next tail'
+going_more {g = g} {start = start} {own = own} {part = part} {queue = queue} {head = head} {items = items} {part' = part'} {queue' = queue'} {next = next} h is are k s holds = record {
   lists = s.lists;
   order = omega (arith, s.grows);
   starts = s.more start k.starts;
-  passed = λ g sh j l m may x. passed g sh j l m may x (cases_lt j head);
+  passed = λ j l m may x. passed j l m may x (cases_lt j head);
 }
   where
-    passed : (g : Game) → Shows v g → (j : ℕ) → j < next → (m : ℕ) → May g (get_or queue' j 0) m → In (members own) m → (j < head) ⊎ (head ≤ j) → In (members part') m
-    passed g sh j l m may x (inl e) = s.more m (k.passed g sh j e m (subst (λ (n : ℕ). May g n m) (s.front j (omega arith)) may) x)
-    passed g sh j l m may x (inr e) =
+    passed : (j : ℕ) → j < next → (m : ℕ) → May g (get_or queue' j 0) m → In (members own) m → (j < head) ⊎ (head ≤ j) → In (members part') m
+    passed j l m may x (inl e) = s.more m (k.passed j e m (subst (λ (n : ℕ). May g n m) (s.front j (omega arith)) may) x)
+    passed j l m may x (inr e) =
         let same : get_or queue' j 0 ≡ get_or queue head 0 = ap (λ (i : ℕ). get_or queue' i 0) (let e' : j ≡ head = omega arith in e') ∙ s.front head h in
-        let t = among_at m items (subst (λ (y : List ℕ). Rattle.endless.specs.Games.Among m y) (sym (are g sh)) (subst (λ (n : ℕ). May g n m) same may)) in
+        let t = among_at m items (subst (λ (y : List ℕ). Among m y) (sym are) (subst (λ (n : ℕ). May g n m) same may)) in
         subst (λ (n : ℕ). In (members part') n) t.2 (holds t.0 t.1 (subst (λ (n : ℕ). In (members own) n) (sym t.2) x))
 
-pub going_all : (v : Places) (start : ℕ) (own part queue : List ℕ) (head tail : ℕ) → tail ≤ head → Going v start own part queue head tail → (g : Game) → Shows v g → Closed g (members own) (members part)
-going_all v start own part queue head tail end k g sh = record { within = k.lists.inside; stays = stays }
-  where
-    stays : (n m : ℕ) → In (members part) n → May g n m → In (members own) m → In (members part) m
-    stays n m x may y = let t = k.lists.listed n x in k.passed g sh t.0 (omega (arith, t.1)) m (subst (λ (i : ℕ). May g i m) (sym t.2) may) y
-
--- a part that begins at a place, and all of a set, by a list that has all of it, or without one
-pub reached_taken : (v : Places) (start : ℕ) (own part queue : List ℕ) (count : ℕ) → Listing own part queue count → count ≤ size own → In (members part) start → ((g : Game) → Shows v g → Closed g (members own) (members part)) → PartTaken v own part queue count
-reached_taken v start own part queue count k few holds closed = record {
-  few = few;
-  sizes = (λ e. absurd (omega (arith, k.counts, some_size part start (T_true _ holds))), λ h. k.counts);
-  some_place = λ h. some_size part start (T_true _ holds);
-  closed = closed;
-  listed = listed own part queue count k (some_size part start (T_true _ holds));
+pub going_all : {g : Game} {start : ℕ} {own part queue : List ℕ} {head tail : ℕ} → tail ≤ head → Going g start own part queue head tail → Closed g (members own) (members part)
+going_all {g = g} end k = record {
+  within = k.lists.inside;
+  stays = λ n m x may y. let t = k.lists.listed n x in k.passed t.0 (omega (arith, t.1)) m (subst (λ (i : ℕ). May g i m) (sym t.2) may) y;
 }
-  where
-    listed : (own part queue : List ℕ) (count : ℕ) → Listing own part queue count → 0 < size part → (list : List ℕ) → length list ≡ count → ((j : ℕ) → j < count → get_or list j 0 ≡ get_or queue j 0) → Part own list (members part)
-    listed own part queue count k some list long same = record {
-      within = k.inside;
-      whole = λ e. absurd (omega (arith, k.counts));
-      told = λ h n. (
-        λ x. let t = k.listed n x in (t.0, omega (arith, t.1), same t.0 t.1 ∙ t.2),
-        λ p. subst (λ (m : ℕ). In (members part) m) (sym (same p.0 (omega (arith, p.1))) ∙ p.2) (k.queued p.0 (omega (arith, p.1))),
-      );
-    }
 
-pub listed_taken : (v : Places) (own part queue : List ℕ) (count : ℕ) → length part ≡ length own → Listing own part queue count → Within (members own) (members part) → PartTaken v own part queue count
-listed_taken v own part queue count same k all = record {
-  few = omega (arith, k.counts, size_sub part own same (λ j x. T_true _ (k.inside j (true_T _ x))));
-  sizes = (λ e. omega (arith, size_sub own part (sym same) (λ j x. T_true _ (all j (true_T _ x))), size_sub part own same (λ j x. T_true _ (k.inside j (true_T _ x)))), λ h. k.counts);
-  some_place = λ h. omega (arith, size_sub own part (sym same) (λ j x. T_true _ (all j (true_T _ x))));
-  closed = λ g sh. record { within = k.inside; stays = λ n m x may y. all m y };
+-- all of a set, by a list that has all of it
+pub listed_taken : {g : Game} {own part queue : List ℕ} {count : ℕ} → length part ≡ length own → Listing own part queue count → Within (members own) (members part) → PartTaken g own part queue count
+listed_taken {own = own} {part = part} same k all = record {
+  few = omega (arith, k.counts, less);
+  sizes = (λ e. omega (arith, less, more), λ h. k.counts);
+  some_place = λ h. omega (arith, more);
+  closed = record { within = k.inside; stays = λ n m x may y. all m y };
   listed = λ list long at. record {
     within = k.inside;
     whole = λ e. all;
@@ -181,6 +136,12 @@ listed_taken v own part queue count same k all = record {
     );
   };
 }
+  where
+    less : size part ≤ size own
+    less = size_sub part own same (λ j x. T_true _ (k.inside j (true_T _ x)))
+
+    more : size own ≤ size part
+    more = size_sub own part (sym same) (λ j x. T_true _ (all j (true_T _ x)))
 
 -- all places of the set are among those gone over
 pub over_all : (own part items : List ℕ) → ((k : ℕ) → k < length items → In (members own) (get_or items k 0) → In (members part) (get_or items k 0)) → 0 < length items → Covers own items → Within (members own) (members part)

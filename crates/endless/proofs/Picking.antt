@@ -6,8 +6,6 @@ use Rattle.endless.specs.Games.{Game, weight}
 use Rattle.endless.specs.Says.{side, goes}
 use Rattle.endless.specs.Sets.{Set, In, Out, Within, having}
 use Rattle.endless.specs.Bits.{members, size, Removed}
-use Rattle.endless.specs.View.{Shows}
-use Rattle.endless.specs.declared.graph.Places.{Places}
 use Rattle.endless.specs.Pulling.{Passed, Unchanged, Starts}
 use Rattle.endless.specs.Levels.{HeaviestIn, HeaviestOf, GatheredIn, Stays, Taken, TakenIf}
 use Rattle.endless.specs.Parts.{Told, PickedIf}
@@ -22,34 +20,28 @@ told_in list R told j h = (told (omega arith) (get_or list j 0)).1 (j, h, refl)
 
 -- ---- the heaviest weight
 
-pub record Weighed (v : Places) (list : List ℕ) (i h : ℕ) : Type 0 where
-  pub most : (g : Game) → Shows v g → (j : ℕ) → j < i → weight g (get_or list j 0) ≤ h
-  pub some_place : (g : Game) → Shows v g → ((h ≡ 0) × (i ≡ 0)) ⊎ ((j : ℕ) × (j < i) × (weight g (get_or list j 0) ≡ h))
+pub record Weighed (g : Game) (list : List ℕ) (i h : ℕ) : Type 0 where
+  pub most : (j : ℕ) → j < i → weight g (get_or list j 0) ≤ h
+  pub some_place : ((h ≡ 0) × (i ≡ 0)) ⊎ ((j : ℕ) × (j < i) × (weight g (get_or list j 0) ≡ h))
 
-pub weighed_none : (v : Places) (list : List ℕ) → Weighed v list 0 0
-weighed_none v list = record { most = λ g s j h. absurd (omega arith); some_place = λ g s. inl (refl, refl) }
-
-pub weighed_more : {v : Places} {list : List ℕ} {i h w r : ℕ} → Weighed v list i h → ((g : Game) → Shows v g → w ≡ weight g (get_or list i 0)) → r ≡ max h w → Weighed v list (i + 1) r
-weighed_more {v} {list} {i} {h} {w} {r} k weighs is = record {
-  most = λ g s j l. most g s j l (cases_lt j i);
-  some_place = λ g s. inr (some_place g s (k.some_place g s) (cases_lt h w));
-}
+pub weighed_more : {g : Game} {list : List ℕ} {i h w r : ℕ} → Weighed g list i h → w ≡ weight g (get_or list i 0) → r ≡ max h w → Weighed g list (i + 1) r
+weighed_more {g} {list} {i} {h} {w} {r} k weighs is = record { most = λ j l. most j l (cases_lt j i); some_place = inr (some_place k.some_place (cases_lt h w)) }
   where
-    most : (g : Game) → Shows v g → (j : ℕ) → j < i + 1 → (j < i) ⊎ (i ≤ j) → weight g (get_or list j 0) ≤ r
-    most g s j l (inl e) = omega (arith, k.most g s j e)
-    most g s j l (inr e) = omega (arith, weighs g s, ap (λ (x : ℕ). weight g (get_or list x 0)) (let t : j ≡ i = omega arith in t))
+    most : (j : ℕ) → j < i + 1 → (j < i) ⊎ (i ≤ j) → weight g (get_or list j 0) ≤ r
+    most j l (inl e) = omega (arith, k.most j e)
+    most j l (inr e) = omega (arith, weighs, ap (λ (x : ℕ). weight g (get_or list x 0)) (let t : j ≡ i = omega arith in t))
 
-    some_place : (g : Game) → Shows v g → ((h ≡ 0) × (i ≡ 0)) ⊎ ((j : ℕ) × (j < i) × (weight g (get_or list j 0) ≡ h)) → (h < w) ⊎ (w ≤ h) → (j : ℕ) × (j < i + 1) × (weight g (get_or list j 0) ≡ r)
-    some_place g s (inl t) c = (i, omega arith, omega (arith, t.0, weighs g s))
-    some_place g s (inr t) (inl c) = (i, omega arith, omega (arith, weighs g s))
-    some_place g s (inr t) (inr c) = (t.0, omega (arith, t.1), omega (arith, t.2))
+    some_place : ((h ≡ 0) × (i ≡ 0)) ⊎ ((j : ℕ) × (j < i) × (weight g (get_or list j 0) ≡ h)) → (h < w) ⊎ (w ≤ h) → (j : ℕ) × (j < i + 1) × (weight g (get_or list j 0) ≡ r)
+    some_place (inl t) c = (i, omega arith, omega (arith, t.0, weighs))
+    some_place (inr t) (inl c) = (i, omega arith, omega (arith, weighs))
+    some_place (inr t) (inr c) = (t.0, omega (arith, t.1), omega (arith, t.2))
 
-pub weighed_all : {v : Places} {list : List ℕ} {i h : ℕ} → i ≡ length list → Weighed v list i h → (g : Game) → Shows v g → 0 < length list → HeaviestOf g list h
-weighed_all {v} {list} {i} {h} end k g s some = record { most = λ j l. k.most g s j (omega arith); some_place = go (k.some_place g s) }
+pub weighed_all : {g : Game} {list : List ℕ} {i h : ℕ} → i ≡ length list → Weighed g list i h → 0 < length list → HeaviestOf g list h
+weighed_all {g} {list} {i} {h} end k some = go k.some_place
   where
-    go : ((h ≡ 0) × (i ≡ 0)) ⊎ ((j : ℕ) × (j < i) × (weight g (get_or list j 0) ≡ h)) → (j : ℕ) × (j < length list) × (weight g (get_or list j 0) ≡ h)
+    go : ((h ≡ 0) × (i ≡ 0)) ⊎ ((j : ℕ) × (j < i) × (weight g (get_or list j 0) ≡ h)) → HeaviestOf g list h
     go (inl t) = absurd (omega (arith, t.1))
-    go (inr t) = (t.0, omega (arith, t.1), t.2)
+    go (inr t) = record { most = λ j l. k.most j (omega arith); some_place = (t.0, omega (arith, t.1), t.2) }
 
 pub heaviest_told : (g : Game) (list : List ℕ) (R : Set) (h : ℕ) → 0 < length list → Told list R → HeaviestOf g list h → HeaviestIn g R h
 heaviest_told g list R h some told k = record {
@@ -142,10 +134,6 @@ module _ {f : ℕ → ℕ} {k : ℕ} {own list : List ℕ} {i : ℕ} {left queue
         all n x o (inl e) = (count, omega arith, last ∙ sym e)
         all n x o (inr d) = let t = so_far.all n x (still n d o) in (t.0, omega (arith, t.1), front t.0 t.1 ∙ t.2)
 
-  -- there is room for a place that is left
-  pub picking_room : size own ≤ length queue → count + size left ≤ length queue
-  picking_room room = omega (arith, so_far.counts)
-
   -- one place more
   pub picking_more : {left' queue' : List ℕ} {r : ℕ} → size own ≤ length queue → PickedIf f k (get_or list i 0) count left queue left' queue' r → Picking f k own list (i + 1) left' queue' r
   picking_more {left'} {queue'} {r} room (inl t) = rw (t.0, t.1, t.2) (picking_skip t.3)
@@ -174,76 +162,62 @@ module _ {f : ℕ → ℕ} {k : ℕ} {own list : List ℕ} {i : ℕ} {left queue
 
 -- ---- those of a weight, which are given to a side with a move that stays
 
-pub record Taking (v : Places) (w h : ℕ) (own part out list : List ℕ) (i : ℕ) (left queue out' : List ℕ) (count : ℕ) : Type 0 where
-  pub picks : (g : Game) → Shows v g → Picking (weight g) h part list i left queue count
+pub record Taking (g : Game) (w h : ℕ) (own part out list : List ℕ) (i : ℕ) (left queue out' : List ℕ) (count : ℕ) : Type 0 where
+  pub picks : Picking (weight g) h part list i left queue count
   pub frame : (n : ℕ) → Out (members part) n → Unchanged out out' n
   pub labelled : (n : ℕ) → In (members part) n → Out (members left) n → side out' n ≡ w
-  pub stays : (g : Game) → Shows v g → (n : ℕ) → In (members part) n → Out (members left) n → Stays g (members own) n (goes out' n)
+  pub stays : (n : ℕ) → In (members part) n → Out (members left) n → Stays g (members own) n (goes out' n)
 
-pub taking_none : (v : Places) (w h : ℕ) (own part out list queue : List ℕ) → Taking v w h own part out list 0 part queue out 0
-taking_none v w h own part out list queue = record {
-  picks = λ g s. picking_none (weight g) h part list queue;
-  frame = λ n x. (refl, refl);
-  labelled = λ n x o. absurd (o x);
-  stays = λ g s n x o. absurd (o x);
-}
+module _ {g : Game} {w h : ℕ} {own part out list : List ℕ} {i : ℕ} {left queue out' : List ℕ} {count : ℕ} (so_far : Taking g w h own part out list i left queue out' count) where
+  module _ (room : 2 * get_or list i 0 + 1 < length out') {left' queue' out'' : List ℕ} (mine : In (members left) (get_or list i 0)) (t : Taken g w (get_or list i 0) (members own) count left queue out' left' queue' out'') (more : Picking (weight g) h part list (i + 1) left' queue' (count + 1)) where
+    same : (n : ℕ) → (n ≡ get_or list i 0 → ⊥) → Unchanged out' out'' n
+    same = given_same room t.given
 
-module _ {v : Places} {w h : ℕ} {own part out list : List ℕ} {i : ℕ} {left queue out' : List ℕ} {count : ℕ} (so_far : Taking v w h own part out list i left queue out' count) where
-  module _ (inside : (g : Game) → Shows v g → get_or list i 0 < length g) (space : size part ≤ length queue) where
-    as_picked : {left' queue' out'' : List ℕ} {r : ℕ} → TakenIf v w h (get_or list i 0) (members own) count left queue out' left' queue' out'' r → (g : Game) → Shows v g → PickedIf (weight g) h (get_or list i 0) count left queue left' queue' r
-    as_picked (inl t) g s = inl (t.0, t.1, t.2, t.4 g s (inside g s))
-    as_picked (inr t) g s = inr (t.0, t.1, t.2 g s (inside g s), t.3.left_is, t.3.queue_is)
+    out_still : (n : ℕ) → (n ≡ get_or list i 0 → ⊥) → Out (members left') n → Out (members left) n
+    out_still n d o x = go (removed_which left (get_or list i 0) left' t.left_is n x)
+      where
+        go : (n ≡ get_or list i 0) ⊎ In (members left') n → ⊥
+        go (inl e) = d e
+        go (inr y) = o y
 
-    module _ (room : 2 * get_or list i 0 + 1 < length out') {left' queue' out'' : List ℕ} (mine : In (members left) (get_or list i 0)) (t : Taken v w (get_or list i 0) (members own) count left queue out' left' queue' out'') (more : (g : Game) → Shows v g → Picking (weight g) h part list (i + 1) left' queue' (count + 1)) (was : In (members part) (get_or list i 0)) where
-      same : (n : ℕ) → (n ≡ get_or list i 0 → ⊥) → Unchanged out' out'' n
-      same = given_same room t.given
+    taking_take : Taking g w h own part out list (i + 1) left' queue' out'' (count + 1)
+    taking_take = record {
+      picks = more;
+      frame = λ n o.
+          let a = so_far.frame n o in
+          let b = same n (λ e. o (so_far.picks.rest n (subst (λ (j : ℕ). In (members left) j) (sym e) mine))) in
+          (b.0 ∙ a.0, b.1 ∙ a.1);
+      labelled = λ n x o. labelled n x o (cases_eq n (get_or list i 0));
+      stays = λ n x o. stays n x o (cases_eq n (get_or list i 0));
+    }
+      where
+        labelled : (n : ℕ) → In (members part) n → Out (members left') n → (n ≡ get_or list i 0) ⊎ (n ≡ get_or list i 0 → ⊥) → side out'' n ≡ w
+        labelled n x o (inl e) = ap (side out'') e ∙ given_side room t.given
+        labelled n x o (inr d) = same_side out' out'' n (given_length room t.given) (same n d) ∙ so_far.labelled n x (out_still n d o)
 
-      out_still : (n : ℕ) → (n ≡ get_or list i 0 → ⊥) → Out (members left') n → Out (members left) n
-      out_still n d o x = go (removed_which left (get_or list i 0) left' t.left_is n x)
-        where
-          go : (n ≡ get_or list i 0) ⊎ In (members left') n → ⊥
-          go (inl e) = d e
-          go (inr y) = o y
+        stays : (n : ℕ) → In (members part) n → Out (members left') n → (n ≡ get_or list i 0) ⊎ (n ≡ get_or list i 0 → ⊥) → Stays g (members own) n (goes out'' n)
+        stays n x o (inl e) = subst (λ (j : ℕ). Stays g (members own) j (goes out'' j)) (sym e) (given_stays room t.given)
+        stays n x o (inr d) = subst (Stays g (members own) n) (sym (unchanged_goes out' out'' n (same n d))) (so_far.stays n x (out_still n d o))
 
-      taking_take : Taking v w h own part out list (i + 1) left' queue' out'' (count + 1)
-      taking_take = record {
-        picks = more;
-        frame = λ n o.
-            let a = so_far.frame n o in
-            let b = same n (λ e. o (subst (λ (j : ℕ). In (members part) j) (sym e) was)) in
-            (b.0 ∙ a.0, b.1 ∙ a.1);
-        labelled = λ n x o. labelled n x o (cases_eq n (get_or list i 0));
-        stays = λ g s n x o. stays g s n x o (cases_eq n (get_or list i 0));
-      }
-        where
-          labelled : (n : ℕ) → In (members part) n → Out (members left') n → (n ≡ get_or list i 0) ⊎ (n ≡ get_or list i 0 → ⊥) → side out'' n ≡ w
-          labelled n x o (inl e) = ap (side out'') e ∙ given_side room t.given
-          labelled n x o (inr d) = same_side out' out'' n (given_length room t.given) (same n d) ∙ so_far.labelled n x (out_still n d o)
+  pub taking_more : size part ≤ length queue → 2 * get_or list i 0 + 1 < length out' → {left' queue' out'' : List ℕ} {r : ℕ} → TakenIf g w h (get_or list i 0) (members own) count left queue out' left' queue' out'' r → Taking g w h own part out list (i + 1) left' queue' out'' r
+  taking_more space room (inl t) =
+      rw (t.0, t.1, t.2, t.3) (record {
+        picks = picking_more so_far.picks space (inl (refl, refl, refl, t.4));
+        frame = so_far.frame;
+        labelled = so_far.labelled;
+        stays = so_far.stays;
+      })
+  taking_more space room (inr t) = rw t.0 (taking_take room t.1 t.3 (picking_more so_far.picks space (inr (refl, t.1, t.2, t.3.left_is, t.3.queue_is))))
 
-          stays : (g : Game) → Shows v g → (n : ℕ) → In (members part) n → Out (members left') n → (n ≡ get_or list i 0) ⊎ (n ≡ get_or list i 0 → ⊥) → Stays g (members own) n (goes out'' n)
-          stays g s n x o (inl e) = subst (λ (j : ℕ). Stays g (members own) j (goes out'' j)) (sym e) (given_stays room t.given g s (inside g s))
-          stays g s n x o (inr d) = subst (Stays g (members own) n) (sym (unchanged_goes out' out'' n (same n d))) (so_far.stays g s n x (out_still n d o))
-
-    pub taking_more : {g₀ : Game} → Shows v g₀ → 2 * get_or list i 0 + 1 < length out' → {left' queue' out'' : List ℕ} {r : ℕ} → TakenIf v w h (get_or list i 0) (members own) count left queue out' left' queue' out'' r → Taking v w h own part out list (i + 1) left' queue' out'' r
-    taking_more {g₀} s₀ room {left'} {queue'} {out''} {r} (inl t) =
-        rw (t.0, t.1, t.2, t.3) (record {
-          picks = λ g s. picking_more (so_far.picks g s) space (inl (refl, refl, refl, t.4 g s (inside g s)));
-          frame = so_far.frame;
-          labelled = so_far.labelled;
-          stays = so_far.stays;
-        })
-    taking_more {g₀} s₀ room {left'} {queue'} {out''} {r} (inr t) =
-        rw t.0 (taking_take room t.1 t.3 (λ g s. picking_more (so_far.picks g s) space (inr (refl, t.1, t.2 g s (inside g s), t.3.left_is, t.3.queue_is))) ((so_far.picks g₀ s₀).rest (get_or list i 0) t.1))
-
-  pub taking_all : i ≡ length list → (g : Game) → Shows v g → 0 < length list → Told list (members part) → GatheredIn g (members part) (members own) w h left queue out' count
-  taking_all end g s some told = record {
+  pub taking_all : i ≡ length list → 0 < length list → Told list (members part) → GatheredIn g (members part) (members own) w h left queue out' count
+  taking_all end some told = record {
     starts = starts;
     labelled = λ n y. so_far.labelled n (having_within (members part) (weight g) h n y) (starts.apart n y);
-    stays = λ n y. so_far.stays g s n (having_within (members part) (weight g) h n y) (starts.apart n y);
+    stays = λ n y. so_far.stays n (having_within (members part) (weight g) h n y) (starts.apart n y);
   }
     where
       starts : Starts (members part) (having (members part) (weight g) h) left queue count
-      starts = picking_all (so_far.picks g s) (members part) end some (λ n x. x) told
+      starts = picking_all so_far.picks (members part) end some (λ n x. x) told
 
 -- ---- the same targets, told otherwise
 pub starts_as : (U D E : Set) (l q : List ℕ) (k : ℕ) → Within D E → Within E D → Starts U D l q k → Starts U E l q k

@@ -4,8 +4,9 @@ use mathlib.Core.Path.{fun_ext}
 use Rattle.std.proofs.lemmas.List.{drop_all, get_or-take, get_or-drop, length-append, length-drop, length-take-le, ext_get_or}
 use Rattle.std.proofs.lemmas.Bool.{cases_eq}
 use Rattle.endless.specs.Games.{Place, Game, Reads, row}
-use Rattle.endless.specs.Graph.{moves, times, entering, edges, sources, upto, Placed, Listed, Filling, Room, Counts, Entered, Ready}
-use Rattle.endless.proofs.Reading.{places_fine, targets_lt}
+use Rattle.endless.specs.Graph.{moves, times, entering, edges, sources, upto, Listed, Filling, Room, Counts, Entered, Ready}
+use Rattle.endless.proofs.Places.{ok_size}
+use Rattle.endless.proofs.Escapes.{move_inside}
 use Rattle.endless.proofs.Sources.{entering_le, entering_past, entering_drop, entering_drop_le, upto_entering, upto_suc, sources_drop, sources_length}
 
 -- how many words a game takes
@@ -16,37 +17,23 @@ row_length (p ∷ ps) = omega (arith, length-append p.moves (row ps), row_length
 pub words_length : (s : List ℕ) (g : Game) → Reads s g → length s ≡ 1 + 3 * length g + edges g
 words_length s g reads = let e : length s ≡ suc (length (row g)) = ap length reads.is in omega (arith, row_length g)
 
-pub edges_words : (s : List ℕ) (g : Game) → Reads s g → edges g < length s
-edges_words s g reads = omega (arith, words_length s g reads)
-
 -- ---- the moves of the first v places counted
 
-abbrev pub Counting : List ℕ → List ℕ → ℕ → List ℕ → Type 0
-Counting s starts v counts = (g : Game) → Placed s g starts → (m : ℕ) → get_or counts m 0 + entering (drop v g) m ≡ entering g m
+abbrev pub Counting : Game → ℕ → List ℕ → Type 0
+Counting g v counts = (m : ℕ) → get_or counts m 0 + entering (drop v g) m ≡ entering g m
 
-pub counting_start : (s starts counts : List ℕ) → ((m : ℕ) → get_or counts m 0 ≡ 0) → Counting s starts 0 counts
-counting_start s starts counts none g placed m = omega (arith, none m)
+pub counting_start : (g : Game) (counts : List ℕ) → ((m : ℕ) → get_or counts m 0 ≡ 0) → Counting g 0 counts
+counting_start g counts none m = omega (arith, none m)
 
-module _ (s starts : List ℕ) (v : ℕ) (counts : List ℕ) (inv : Counting s starts v counts) (targets : List ℕ)
-    (before : (g : Game) → Placed s g starts → v < length g) (are : (g : Game) → Placed s g starts → targets ≡ moves g v) where
-  pub targets_within : (g : Game) → Placed s g starts → (k : ℕ) → k < length targets → get_or targets k 0 < length g
-  targets_within g placed = targets_lt s g placed.reads v targets (before g placed) (are g placed)
+module _ (g : Game) (v : ℕ) (counts : List ℕ) (inv : Counting g v counts) (before : v < length g) (targets : List ℕ) (are : targets ≡ moves g v) where
+  counted_next : (m : ℕ) → entering (drop v g) m ≡ times m targets + entering (drop (v + 1) g) m
+  counted_next m = entering_drop g v m before ∙ ap (λ l. times m l + entering (drop (v + 1) g) m) (sym are)
 
-  counted_next : (g : Game) → Placed s g starts → (m : ℕ) → entering (drop v g) m ≡ times m targets + entering (drop (v + 1) g) m
-  counted_next g placed m = entering_drop g v m (before g placed) ∙ ap (λ l. times m l + entering (drop (v + 1) g) m) (sym (are g placed))
+  pub counting_fits : edges g < 2 ^ 64 → (m : ℕ) → get_or counts m 0 + times m targets < 2 ^ 64
+  counting_fits fits m = omega (arith, inv m, counted_next m, entering_le g m)
 
-  pub counting_fits : (g : Game) → Placed s g starts → length s < 2 ^ 64 → (m : ℕ) → get_or counts m 0 + times m targets < 2 ^ 64
-  counting_fits g placed fits m =
-      omega (arith, inv g placed m, counted_next g placed m, entering_le g m, edges_words s g placed.reads)
-
-  pub counting_more : (after : List ℕ) → Counts counts targets after → Counting s starts (v + 1) after
-  counting_more after more g placed m = omega (arith, inv g placed m, counted_next g placed m, more m)
-
-pub counting_all : (s starts : List ℕ) (v : ℕ) (counts : List ℕ) → Counting s starts v counts → ((g : Game) → Placed s g starts → length g ≤ v)
-    → (g : Game) → Placed s g starts → (m : ℕ) → get_or counts m 0 ≡ entering g m
-counting_all s starts v counts inv past g placed m =
-    let none : entering (drop v g) m ≡ 0 = ap (λ l. entering l m) (drop_all v g (past g placed)) in
-    omega (arith, inv g placed m)
+  pub counting_more : (after : List ℕ) → Counts counts targets after → Counting g (v + 1) after
+  counting_more after more m = omega (arith, inv m, counted_next m, more m)
 
 -- ---- counts summed up are the ends of lists in which nothing stands yet
 
@@ -58,51 +45,45 @@ ready g counts ends preds long top are sums = record {
   top = top;
 }
 
-pub sums_fit : (g : Game) (counts : List ℕ) (n k : ℕ) → edges g ≤ k → k < 2 ^ 64 → ((m : ℕ) → get_or counts m 0 ≡ entering g m)
-    → upto (λ j. get_or counts j 0) n < 2 ^ 64
-sums_fit g counts n k top fits are =
+pub sums_fit : (g : Game) (counts : List ℕ) (n : ℕ) → edges g < 2 ^ 64 → ((m : ℕ) → get_or counts m 0 ≡ entering g m) → upto (λ j. get_or counts j 0) n < 2 ^ 64
+sums_fit g counts n fits are =
     let e : upto (λ j. get_or counts j 0) n ≡ upto (entering g) n = ap (λ f. upto f n) (fun_ext are) in
     omega (arith, upto_entering g n)
 
 -- ---- the places from v on entered
 
-abbrev pub Listing : List ℕ → List ℕ → List ℕ → List ℕ → ℕ → List ℕ → List ℕ → Type 0
-Listing s starts ends₀ preds₀ v ends preds =
-    (g : Game) → Placed s g starts → Ready g ends₀ preds₀ → Filling (entering g) (length g) ends preds (sources v (drop v g))
+abbrev pub Listing : Game → ℕ → List ℕ → List ℕ → Type 0
+Listing g v ends preds = Filling (entering g) (length g) ends preds (sources v (drop v g))
 
-nothing : (v : ℕ) (g : Game) → length g ≤ v → (m : ℕ) → sources v (drop v g) m ≡ []
-nothing v g h m = ap (λ l. sources v l m) (drop_all v g h)
-
-pub listing_start : (s starts ends preds : List ℕ) (v : ℕ) → ((g : Game) → Placed s g starts → v ≡ length g) → Listing s starts ends preds v ends preds
-listing_start s starts ends preds v is g placed ready = record {
-  many = λ m h. let none : length (sources v (drop v g) m) ≡ 0 = ap length (nothing v g past m) in omega (arith, ready.sums m (let l : m < length g + 1 = omega arith in l));
+pub listing_start : {s : List ℕ} (g : Game) (v : ℕ) (ends preds : List ℕ) → Reads s g → v ≡ length g → Ready g ends preds → Listing g v ends preds
+listing_start g v ends preds reads is ready = record {
+  many = λ m h. omega (arith, ready.sums m (let l : m < length g + 1 = omega arith in l), ap length (nothing m));
   last = ready.sums (length g) (omega arith) ∙ upto_suc (entering g) (length g)
-      ∙ (let none : entering g (length g) ≡ 0 = entering_past (length g) g (places_fine s g placed.reads) in omega arith);
-  held = λ m k h l. let none : length (sources v (drop v g) m) ≡ 0 = ap length (nothing v g past m) in absurd (omega arith);
+      ∙ (let none : entering g (length g) ≡ 0 = entering_past (length g) g (ok_size _ g reads).2 in omega arith);
+  held = λ m k h l. absurd (omega (arith, ap length (nothing m)));
 }
   where
-    past : length g ≤ v
-    past = omega (arith, is g placed)
+    nothing : (m : ℕ) → sources v (drop v g) m ≡ []
+    nothing m = ap (λ l. sources v l m) (drop_all v g (omega arith))
 
-module _ (s starts ends₀ preds₀ : List ℕ) (v u : ℕ) (ends preds : List ℕ) (inv : Listing s starts ends₀ preds₀ v ends preds) (e : v ≡ u + 1)
-    (targets : List ℕ) (before : (g : Game) → Placed s g starts → u < length g) (are : (g : Game) → Placed s g starts → targets ≡ moves g u)
-    (longs : length ends ≡ length ends₀) (longp : length preds ≡ length preds₀) where
-  pub listing_room : (g : Game) → Placed s g starts → Ready g ends₀ preds₀ → Room (entering g) (length g) targets ends preds (sources v (drop v g))
-  listing_room g placed ready = record {
-    long = longs ∙ ready.long;
-    top = (let t = ready.top in omega (arith, upto_entering g (length g)));
-    within = targets_lt s g placed.reads u targets (before g placed) (are g placed);
+module _ (g : Game) (v u : ℕ) (ends preds : List ℕ) (e : v ≡ u + 1) (before : u < length g) (targets : List ℕ) (are : targets ≡ moves g u) where
+  pub listing_room : {s : List ℕ} → Reads s g → length ends ≡ length g + 1 → edges g ≤ length preds → Room (entering g) (length g) targets ends preds (sources v (drop v g))
+  listing_room reads long top = record {
+    long = long;
+    top = omega (arith, upto_entering g (length g));
+    within = move_inside reads u targets are;
     space = λ m h.
-        let same : times m targets ≡ times m (moves g u) = ap (times m) (are g placed) in
+        let same : times m targets ≡ times m (moves g u) = ap (times m) are in
         let rest : entering (drop v g) m ≡ entering (drop (u + 1) g) m = ap (λ n. entering (drop n g) m) e in
-        omega (arith, sources_length v (drop v g) m, entering_drop g u m (before g placed), entering_drop_le g u m, upto_suc (entering g) m);
+        omega (arith, sources_length v (drop v g) m, entering_drop g u m before, entering_drop_le g u m, upto_suc (entering g) m);
   }
 
-  pub listing_more : (ends' preds' : List ℕ) → Entered targets u ends preds ends' preds' → Listing s starts ends₀ preds₀ u ends' preds'
-  listing_more ends' preds' entered g placed ready =
+  pub listing_more : {s : List ℕ} → Reads s g → length ends ≡ length g + 1 → edges g ≤ length preds → Listing g v ends preds
+      → (ends' preds' : List ℕ) → Entered targets u ends preds ends' preds' → Listing g u ends' preds'
+  listing_more reads long top inv ends' preds' entered =
       subst (Filling (entering g) (length g) ends' preds')
-      (fun_ext (λ m. ap₂ (λ l n. replicate (times m l) u ++ sources n (drop n g) m) (are g placed) e ∙ sym (sources_drop g u m (before g placed))))
-      (entered (entering g) (length g) (sources v (drop v g)) (inv g placed ready) (listing_room g placed ready))
+      (fun_ext (λ m. ap₂ (λ l n. replicate (times m l) u ++ sources n (drop n g) m) are e ∙ sym (sources_drop g u m before)))
+      (entered (entering g) (length g) (sources v (drop v g)) inv (listing_room reads long top))
 
 -- ---- the lists
 
@@ -123,7 +104,7 @@ module _ (g : Game) (ends preds : List ℕ) (fill : Filling (entering g) (length
       let a = upto_entering g (suc m) in
       omega (arith, offset m (let l : m ≤ length g = omega arith in l), upto_suc (entering g) m)
 
-  pub listed : Listed g ends preds
+  listed : Listed g ends preds
   listed = record {
     long = long;
     ordered = λ m h. omega (arith, next_offset m h);
@@ -143,9 +124,5 @@ module _ (g : Game) (ends preds : List ℕ) (fill : Filling (entering g) (length
           get_or-take (entering g m) (drop (get_or ends m 0) preds) k 0 l ∙ get_or-drop (get_or ends m 0) preds k 0
           ∙ fill.held m k h (omega (arith, sources_length 0 g m))
 
-pub listing_all : (s starts ends₀ preds₀ : List ℕ) (v : ℕ) (ends preds : List ℕ) → Listing s starts ends₀ preds₀ v ends preds → v ≡ 0
-    → length ends ≡ length ends₀ → length preds ≡ length preds₀
-    → (g : Game) → Placed s g starts → Ready g ends₀ preds₀ → Listed g ends preds
-listing_all s starts ends₀ preds₀ v ends preds inv e longs longp g placed ready =
-    listed g ends preds (subst (λ n. Filling (entering g) (length g) ends preds (sources n (drop n g))) e (inv g placed ready))
-    (longs ∙ ready.long) (let t = ready.top in omega arith)
+pub listing_all : (g : Game) (v : ℕ) (ends preds : List ℕ) → Listing g v ends preds → v ≡ 0 → length ends ≡ length g + 1 → edges g ≤ length preds → Listed g ends preds
+listing_all g v ends preds inv e = listed g ends preds (subst (λ n. Filling (entering g) (length g) ends preds (sources n (drop n g))) e inv)

@@ -1,19 +1,18 @@
 -- The places from which a side can bring every play to a target, and what `attract_to` promises.
-use Rattle.std.proofs.Common.{◌≡◌, ℕ, suc, ◌+◌, ◌*◌, ◌<◌, ◌≤◌, ltb, ◌⊎◌, List, length, get_or, set, sym, refl, ap, ◌∙◌, subst, inl, inr, arith}
+use Rattle.std.proofs.Common.{◌≡◌, ℕ, suc, ◌+◌, ◌*◌, ◌<◌, ◌≤◌, ◌⊎◌, List, length, get_or, set, sym, refl, ap, ◌∙◌, subst, inl, inr, arith}
+use Rattle.std.specs.Prelude.{Err, Result}
 use Rattle.std.proofs.lemmas.List.{get_or-set_same}
 use Rattle.std.proofs.lemmas.Bool.{cases_eq}
-use Rattle.endless.specs.declared.graph.Places.{Places}
-use Rattle.endless.specs.declared.reach.Reached.{Reached}
-use Rattle.endless.specs.declared.reach.Reached.TheVariants.{Done, OutFull, NoPlace, NoGame, Few}
+use Rattle.endless.specs.declared.refusal.Refusal.{Refusal}
+use Rattle.endless.specs.declared.refusal.Refusal.TheVariants.{Few, NoGame, NoPlace, OutFull}
 use Rattle.endless.specs.Games.{Game, Reads, whose, May, Play, Plays, other}
 use Rattle.endless.specs.Says.{side, goes}
 use Rattle.endless.specs.Sets.{Set, In, Out, minus, whole, having}
 use Rattle.endless.specs.Attractors.{Attractor}
-use Rattle.endless.specs.Bits.{members, size, Removed, Least, NoneFrom}
-use Rattle.endless.specs.View.{Shows}
+use Rattle.endless.specs.Bits.{members, Removed, Least, NoneFrom}
 use Rattle.endless.specs.Pulling.{Unchanged, Starts, Moved, Attracts}
 use Rattle.endless.specs.Levels.{Stays, Given}
-use Rattle.endless.specs.Layout.{Fresh}
+use Rattle.endless.specs.Layout.{Accepts, Fresh}
 use Rattle.endless.specs.Reaching.{Handed, Reaches, ReachedSays, ReachPost}
 use Rattle.endless.proofs.Tests.{true_T, T_true}
 use Rattle.endless.proofs.Places.{from_place, has_move, to_place, is_other, not_other, other_below}
@@ -26,18 +25,15 @@ use Rattle.endless.proofs.Layouts.{filled_whole, whole_filled}
 
 -- ---- the places of a set are given to a side, one after the other
 
-pub handed_none : (v : Places) (w : ℕ) (U : Set) (out : List ℕ) → Handed v w U 0 out out
-handed_none v w U out = record { frame = λ n o. (refl, refl); labelled = λ n l. absurd (omega arith); stays = λ g s n l. absurd (omega arith) }
-
-module _ {v : Places} {w : ℕ} (set : List ℕ) {out out' : List ℕ} {from : ℕ} (so_far : Handed v w (members set) from out out') where
-  pub handed_more : {m : ℕ} {out'' : List ℕ} → Least (members set) from m → 2 * m + 1 < length out' → ((g : Game) → Shows v g → m < length g) → Given v w m (members set) out' out'' → Handed v w (members set) (m + 1) out out''
-  handed_more {m} {out''} least room inside t = record {
+module _ {g : Game} {w : ℕ} (set : List ℕ) {out out' : List ℕ} {from : ℕ} (so_far : Handed g w (members set) from out out') where
+  pub handed_more : {m : ℕ} {out'' : List ℕ} → Least (members set) from m → 2 * m + 1 < length out' → Given g w m (members set) out' out'' → Handed g w (members set) (m + 1) out out''
+  handed_more {m} {out''} least room t = record {
     frame = λ n o.
         let a = so_far.frame n o in
         let b = given_same room t n (λ e. o (subst (λ (j : ℕ). In (members set) j) (sym e) (true_T _ least.is))) in
         (b.0 ∙ a.0, b.1 ∙ a.1);
     labelled = λ n l x. labelled n l x (cases_eq n m);
-    stays = λ g s n l x. stays g s n l x (cases_eq n m);
+    stays = λ n l x. stays n l x (cases_eq n m);
   }
     where
       earlier : (n : ℕ) → n < m + 1 → (n ≡ m → ⊥) → In (members set) n → n < from
@@ -47,15 +43,15 @@ module _ {v : Places} {w : ℕ} (set : List ℕ) {out out' : List ℕ} {from : �
       labelled n l x (inl e) = ap (side out'') e ∙ given_side room t
       labelled n l x (inr d) = same_side out' out'' n (given_length room t) (given_same room t n d) ∙ so_far.labelled n (earlier n l d x) x
 
-      stays : (g : Game) → Shows v g → (n : ℕ) → n < m + 1 → In (members set) n → (n ≡ m) ⊎ (n ≡ m → ⊥) → Stays g (members set) n (goes out'' n)
-      stays g s n l x (inl e) = subst (λ (j : ℕ). Stays g (members set) j (goes out'' j)) (sym e) (given_stays room t g s (inside g s))
-      stays g s n l x (inr d) = subst (Stays g (members set) n) (sym (unchanged_goes out' out'' n (given_same room t n d))) (so_far.stays g s n (earlier n l d x) x)
+      stays : (n : ℕ) → n < m + 1 → In (members set) n → (n ≡ m) ⊎ (n ≡ m → ⊥) → Stays g (members set) n (goes out'' n)
+      stays n l x (inl e) = subst (λ (j : ℕ). Stays g (members set) j (goes out'' j)) (sym e) (given_stays room t)
+      stays n l x (inr d) = subst (Stays g (members set) n) (sym (unchanged_goes out' out'' n (given_same room t n d))) (so_far.stays n (earlier n l d x) x)
 
-  pub handed_all : NoneFrom (members set) from → (bound : ℕ) → Handed v w (members set) bound out out'
+  pub handed_all : NoneFrom (members set) from → (bound : ℕ) → Handed g w (members set) bound out out'
   handed_all none bound = record {
     frame = so_far.frame;
     labelled = λ n l x. so_far.labelled n (before set from n (none n) x) x;
-    stays = λ g s n l x. so_far.stays g s n (before set from n (none n) x) x;
+    stays = λ n l x. so_far.stays n (before set from n (none n) x) x;
   }
 
 -- ---- the one target, and the rest of the game
@@ -63,26 +59,22 @@ module _ {v : Places} {w : ℕ} (set : List ℕ) {out out' : List ℕ} {from : �
 abbrev pub Only : Game → ℕ → Set
 Only g target = having (whole g) (λ n. n) target
 
-pub only_starts : (g : Game) (left left' queue : List ℕ) (target : ℕ) → ((j : ℕ) → members left j ≡ ltb j (length g)) → target < length g → Removed left target left' → 0 < length queue → Starts (whole g) (Only g target) left' (set queue 0 target) 1
-only_starts g left left' queue target all place rem room = record {
-  rest = λ n x. filled_whole g left all n (removed_within left target left' rem n x);
+pub only_starts : {g : Game} {left left' out queue escapes : List ℕ} {target : ℕ} → Fresh g left out queue escapes → target < length g → Removed left target left' → Starts (whole g) (Only g target) left' (set queue 0 target) 1
+only_starts {g} {left} {left'} {out} {queue} {escapes} {target} fresh place rem = record {
+  rest = λ n x. filled_whole g left fresh.are n (removed_within left target left' rem n x);
   inside = having_within (whole g) (λ n. n) target;
   apart = λ n d. subst (λ (m : ℕ). Out (members left') m) (sym (having_is (whole g) (λ n. n) target n d)) (removed_out left target left' rem);
-  covers = λ n u o. having_in (whole g) (λ n. n) target n u (covers n o (removed_which left target left' rem n (whole_filled g left all n u)));
+  covers = λ n u o. having_in (whole g) (λ n. n) target n u (covers n o (removed_which left target left' rem n (whole_filled g left fresh.are n u)));
   first = λ j h. let e : j ≡ 0 = omega arith in subst (λ (n : ℕ). In (Only g target) n) (sym (ap (λ (i : ℕ). get_or (set queue 0 target) i 0) e ∙ here)) (having_in (whole g) (λ n. n) target target (whole_in g target place) refl);
   all = λ n d. (0, omega arith, here ∙ sym (having_is (whole g) (λ n. n) target n d));
 }
   where
     here : get_or (set queue 0 target) 0 0 ≡ target
-    here = get_or-set_same queue 0 target 0 room
+    here = get_or-set_same queue 0 target 0 (omega (arith, fresh.queues))
 
     covers : (n : ℕ) → Out (members left') n → (n ≡ target) ⊎ In (members left') n → n ≡ target
     covers n o (inl e) = e
     covers n o (inr x) = absurd (o x)
-
--- and one place less is left
-pub only_room : (g : Game) (left left' : List ℕ) (target : ℕ) → ((j : ℕ) → members left j ≡ ltb j (length g)) → target < length g → Removed left target left' → size left ≡ length g → 1 + size left' ≡ length g
-only_room g left left' target all place rem many = omega (arith, rem.shrinks (T_true _ (whole_filled g left all target (whole_in g target place))))
 
 -- an attractor of the target, given to w, and what is left, given to the other side with moves that stay there
 module _ {s : List ℕ} {g : Game} (r : Reads s g) {w target : ℕ} (two : w < 2) (place : target < length g) (L : Set) {sides plan rank : ℕ → ℕ} (att : Attractor g (whole g) w (Only g target) (minus (whole g) L) plan rank)
@@ -157,10 +149,10 @@ module _ {s : List ℕ} {g : Game} (r : Reads s g) {w target : ℕ} (two : w < 2
 
 -- ---- the steps of `divide`
 
-module _ {s : List ℕ} {g : Game} (reads : Reads s g) (v : Places) (shows : Shows v g) {w target : ℕ} (two : w < 2) (place : target < length g)
+module _ {s : List ℕ} {g : Game} (reads : Reads s g) {w target : ℕ} (two : w < 2) (place : target < length g)
     {left left₁ left₂ queue queue₁ queue₂ escapes out out₁ out₂ out₃ : List ℕ} {tail : ℕ} (fresh : Fresh g left out queue escapes)
-    (given : Given v w target (members left) out out₁) (removed : Removed left target left₁) (moved : Moved left₁ queue₁ out₁ 1 left₂ queue₂ out₂ tail)
-    (attracts : Attracts g (whole g) w (Only g target) left₂ queue₂ out₂ tail) {q : ℕ} (q-is : q ≡ other w) (handed : Handed v q (members left₂) (32 * length left₂) out₂ out₃)
+    (given : Given g w target (members left) out out₁) (removed : Removed left target left₁) (moved : Moved left₁ queue₁ out₁ 1 left₂ queue₂ out₂ tail)
+    (attracts : Attracts g (whole g) w (Only g target) left₂ queue₂ out₂ tail) {q : ℕ} (q-is : q ≡ other w) (handed : Handed g q (members left₂) (32 * length left₂) out₂ out₃)
     (long₂ : length out₂ ≡ length out₁) (long₃ : length out₃ ≡ length out₂) where
   room : 2 * target + 1 < length out
   room = omega (arith, fresh.sized.answers)
@@ -185,7 +177,7 @@ module _ {s : List ℕ} {g : Game} (reads : Reads s g) (v : Places) (shows : Sho
   target_move =
       let t = has_move reads target place in
       subst (May g target) (sym (unchanged_goes out₂ out₃ target (handed.frame target gone) ∙ unchanged_goes out₁ out₂ target target₂))
-      (given_stays room given g shows place t.0 t.1 (whole_filled g left fresh.are t.0 (whole_in g t.0 (to_place reads target t.0 t.1)))).0
+      (given_stays room given t.0 t.1 (whole_filled g left fresh.are t.0 (whole_in g t.0 (to_place reads target t.0 t.1)))).0
 
   ours : (n : ℕ) → n < length g → Out (members left₂) n → side out₃ n ≡ w
   ours n l o = go (cases_eq n target)
@@ -194,34 +186,28 @@ module _ {s : List ℕ} {g : Game} (reads : Reads s g) (v : Places) (shows : Sho
       go (inl e) = ap (side out₃) e ∙ target_side
       go (inr d) = same_side out₂ out₃ n long₃ (handed.frame n o) ∙ attracts.labelled n (whole_in g n l) (λ x. d (having_is (whole g) (λ n. n) target n x)) o
 
-  pub divided_reaches : Reaches g w target (side out₃) (goes out₃)
-  divided_reaches = attractor_reaches reads two place (members left₂) (attractor_plan (goes out₃) (λ n x e. unchanged_goes out₂ out₃ n (handed.frame n (minus_out (whole g) (members left₂) n x))) attracts.attractor)
-      ours (λ n x. handed.labelled n (inside₂ n x) x ∙ q-is) (λ n x. handed.stays g shows n (inside₂ n x) x) gone target_move
+  reaches : Reaches g w target (side out₃) (goes out₃)
+  reaches = attractor_reaches reads two place (members left₂) (attractor_plan (goes out₃) (λ n x e. unchanged_goes out₂ out₃ n (handed.frame n (minus_out (whole g) (members left₂) n x))) attracts.attractor)
+      ours (λ n x. handed.labelled n (inside₂ n x) x ∙ q-is) (λ n x. handed.stays n (inside₂ n x) x) gone target_move
 
-  pub divided_frame : (n : ℕ) → length g ≤ n → Unchanged out out₃ n
-  divided_frame n h =
+  frame : (n : ℕ) → length g ≤ n → Unchanged out out₃ n
+  frame n h =
       let a = given_same room given n (λ e. omega arith) in
       let b = moved.frame n (λ x. absurd (omega (arith, inside₁ n x))) in
       let c = handed.frame n (λ x. omega (arith, inside₁ n (moved.less n x))) in
       (c.0 ∙ b.0 ∙ a.0, c.1 ∙ b.1 ∙ a.1)
 
+  pub divided : ((n : ℕ) → length g ≤ n → Unchanged out out₃ n) × Reaches g w target (side out₃) (goes out₃)
+  divided = (frame, reaches)
+
 -- ---- what each answer of `attract_to` promises
 
-pub few_reached : (s : List ℕ) (lent w target : ℕ) (o : List ℕ) → lent < 65536 + 4 * length s → ReachPost s lent w target o o Few
-few_reached s lent w target o h = record { says = refl; few = (λ x. refl, λ e. h); laws = attractor_laws }
+pub reached : {s : List ℕ} {lent w target : ℕ} {o o' : List ℕ} {r : Result (Unit {0}) Refusal} → 65536 + 4 * length s ≤ lent → (r ≡ Err Few → ⊥) → ReachedSays s w target o o' r → ReachPost s lent w target o o' r
+reached enough d says = record { says = says; few = (λ x. absurd (omega arith), λ e. absurd (d e)); laws = attractor_laws }
 
-module _ {s : List ℕ} {lent w target : ℕ} {o o' : List ℕ} (h : 65536 + 4 * length s ≤ lent) where
-  enough : (r : Reached) → (r ≡ Few → ⊥) → ReachedSays s w target o o' r → ReachPost s lent w target o o' r
-  enough r d says = record { says = says; few = (λ x. absurd (omega arith), λ e. absurd (d e)); laws = attractor_laws }
-
-  pub done_reached : ReachedSays s w target o o' Done → ReachPost s lent w target o o' Done
-  done_reached = enough Done (λ e. let z : ◌≡◌ {A = ℕ} 0 1 = cc in omega arith)
-
-  pub out_full_reached : ReachedSays s w target o o' OutFull → ReachPost s lent w target o o' OutFull
-  out_full_reached = enough OutFull (λ e. let z : ◌≡◌ {A = ℕ} 0 1 = cc in omega arith)
-
-  pub no_place_reached : ReachedSays s w target o o' NoPlace → ReachPost s lent w target o o' NoPlace
-  no_place_reached = enough NoPlace (λ e. let z : ◌≡◌ {A = ℕ} 0 1 = cc in omega arith)
-
-  pub no_game_reached : ReachedSays s w target o o' NoGame → ReachPost s lent w target o o' NoGame
-  no_game_reached = enough NoGame (λ e. let z : ◌≡◌ {A = ℕ} 0 1 = cc in omega arith)
+-- where the words cannot be worked on
+pub unaccepted : {s : List ℕ} {lent w target : ℕ} {o : List ℕ} (e : Refusal) → Accepts s lent (Err e) → ReachPost s lent w target o o (Err e)
+unaccepted Few h = record { says = refl; few = (λ x. refl, λ e. h); laws = attractor_laws }
+unaccepted NoGame h = reached h.0 (λ e. cc) (h.1, refl)
+unaccepted NoPlace h = absurd h
+unaccepted OutFull h = absurd h

@@ -1,7 +1,8 @@
 -- Words read one place at a time: what a place's words are, what is left behind them, and what a whole game is made of.
-use Rattle.std.proofs.Common.{◌≡◌, ℕ, ◌+◌, ◌-◌, ◌<◌, ◌≤◌, Bool, true, false, ◌&&◌, T, List, [], ◌∷◌, ◌++◌, length, get_or, take, drop, sym, refl, ap, ◌∙◌, subst, arith, le→leb}
-use Rattle.std.proofs.lemmas.List.{drop_more, drop-drop, drop_all, at_drop_more, append-nil, append_assoc, length-append, take_at, drop_at, take-append-drop, length-take-le, length-drop, take_rest}
-use Rattle.std.proofs.lemmas.Bool.{lt-ltb, le-ltb, both_ways}
+use Rattle.std.proofs.Common.{◌≡◌, ℕ, ◌+◌, ◌-◌, ◌<◌, ◌≤◌, Bool, true, false, ◌&&◌, T, ltb, List, [], ◌∷◌, ◌++◌, length, get_or, take, drop, sym, refl, ap, ◌∙◌, subst, arith, le→leb}
+use Rattle.std.proofs.lemmas.List.{drop_more, drop-drop, drop_all, append-nil, append_assoc, length-append, take_at, drop_at, take-append-drop, length-take-le, length-drop, take_rest}
+use Rattle.std.specs.List.{list_all}
+use Rattle.std.proofs.lemmas.Bool.{both_ways}
 use Rattle.endless.specs.Games.{Place, Game, Reads, below, ok_ps, row}
 use Rattle.endless.specs.Sides.{number}
 use Rattle.endless.specs.Heads.{Begins}
@@ -18,14 +19,9 @@ three_front s h = let a : 0 < length s = omega arith in let b : 1 < length s = o
     drop_more s 0 0 a ∙ ap (λ (r : List ℕ). get_or s 0 0 ∷ r) (drop_more s 1 0 b ∙ ap (λ (r : List ℕ). get_or s 1 0 ∷ r) (drop_more s 2 0 h))
 
 -- moves tested one by one
-pub below_out : (n : ℕ) (s : List ℕ) (i : ℕ) → i < length s → n ≤ get_or s i 0 → below n (drop i s) ≡ false
-below_out n s i h k = at_drop_more (below n) s i 0 h ∙ ap (λ (b : Bool). b && below n (drop (i + 1) s)) (le-ltb (get_or s i 0) n k)
-
-pub below_in : (n : ℕ) (s : List ℕ) (i : ℕ) → i < length s → get_or s i 0 < n → below n (drop (i + 1) s) ≡ below n (drop i s)
-below_in n s i h k = sym (at_drop_more (below n) s i 0 h ∙ ap (λ (b : Bool). b && below n (drop (i + 1) s)) (lt-ltb (get_or s i 0) n k))
-
-pub below_end : (n : ℕ) (s : List ℕ) (i : ℕ) → length s ≤ i → below n (drop i s) ≡ true
-below_end n s i h = ap (below n) (drop_all i s h)
+pub all_is_below : (n : ℕ) (s : List ℕ) → list_all (λ x. ltb x n) s ≡ below n s
+all_is_below n [] = refl
+all_is_below n (x ∷ xs) = ap (λ (b : Bool). ltb x n && b) (all_is_below n xs)
 
 -- a place's words, and what follows them
 pub row_then : (p : Place) (ps : List Place) → row (p ∷ []) ++ row ps ≡ row (p ∷ ps)

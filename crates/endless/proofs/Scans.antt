@@ -1,12 +1,16 @@
 -- Scans over the words of a set: what has been passed, counted or filled so far.
-use Rattle.std.proofs.Common.{◌≡◌, ℕ, suc, ◌+◌, ◌-◌, ◌*◌, ◌/◌, ◌%◌, ◌^◌, ◌<◌, ◌≤◌, min, Bool, true, false, ltb, ◌⊎◌, List, [], ◌∷◌, length, get_or, drop, set, sym, ap, ◌∙◌, subst, ap₂, inl, inr, arith}
+use Rattle.std.proofs.Common.{◌≡◌, ℕ, suc, ◌+◌, ◌-◌, ◌*◌, ◌/◌, ◌%◌, ◌^◌, ◌<◌, ◌≤◌, min, Bool, true, false, eqb, ltb, ◌⊎◌, List, [], ◌∷◌, length, get_or, drop, set, sym, ap, ◌∙◌, subst, ap₂, inl, inr, arith}
 use lib.Count.{ones, count_trailing_zeros}
-use Rattle.std.proofs.lemmas.List.{drop_more, drop_all}
-use Rattle.std.proofs.lemmas.Bool.{cases_eq, cases_lt, both_ways, lt-ltb, le-ltb}
+use Rattle.std.specs.Bool.{MatchBool}
+use Rattle.std.specs.List.{AllWithin, HoldsAt, enumerate_from, sum_by}
+use Rattle.std.proofs.lemmas.List.{get_or_past, get_or_default, get_or-drop, length-drop}
+use Rattle.std.proofs.lemmas.List.Sums.{sum_by-cons}
+use Rattle.std.proofs.lemmas.List.FromFn.{length-enumerate_from, get_or-enumerate_from}
+use Rattle.std.proofs.lemmas.Bool.{cases_eq, cases_lt, both_ways, lt-ltb, le-ltb, eq-eqb, ne_eqb}
 use Rattle.endless.specs.Bits.{digit, members, count, size, Least, NoneFrom}
 use Rattle.endless.proofs.BitLaws.{digit_none, digit_low, digit_past, digit_shr, ones_count, trailing_below, trailing_at, trailing_lt}
 use Rattle.endless.proofs.CountLaws.{count_zero, count_same, count_add, count_below}
-use Rattle.endless.proofs.SetLaws.{members_past, members_here, members_there, members_at, some_size}
+use Rattle.endless.proofs.SetLaws.{members_past, members_here, members_there, members_at, none_size, some_size}
 
 -- ---- the lowest bit of a word
 
@@ -44,9 +48,6 @@ pub record Passed (f : ℕ → Bool) (i upto : ℕ) : Type 0 where
   pub after : i ≤ upto
   pub none : (j : ℕ) → i ≤ j → j < upto → f j ≡ false
 
-pub passed_start : (f : ℕ → Bool) (i : ℕ) → Passed f i (32 * (i / 32) + i % 32)
-passed_start f i = record { after = omega arith; none = λ j l h. absurd (omega arith) }
-
 module _ (l : List ℕ) (i k s : ℕ) (passed : Passed (members l) i (32 * k + s)) where
   pub passed_more : s < 32 → NoneFrom (digit (get_or l k 0)) s → Passed (members l) i (32 * (k + 1) + 0)
   passed_more below clear = record { after = (let a = passed.after in omega arith); none = λ j a h. go j a h (cases_lt j (32 * k + s)) }
@@ -77,6 +78,20 @@ module _ (l : List ℕ) (i k s : ℕ) (passed : Passed (members l) i (32 * k + s
       go (inl e) = passed.none j a e
       go (inr e) = members_past l j (omega arith)
 
+-- an item of the numbered words behind the first n
+pub numbered : (l : List ℕ) (n i k w : ℕ) → i < length (drop n (enumerate_from 0 l)) → ◌≡◌ {A = ℕ × ℕ} (k, w) (get_or (drop n (enumerate_from 0 l)) i (k, w))
+    → (k ≡ n + i) × (w ≡ get_or l (n + i) 0)
+numbered l n i k w h e = (let a : k ≡ 0 + (n + i) = ap (λ (p : ℕ × ℕ). p.0) is in omega arith, ap (λ (p : ℕ × ℕ). p.1) is ∙ get_or_default l (n + i) w 0 below)
+  where
+    below : n + i < length l
+    below = omega (arith, h, length-drop n (enumerate_from 0 l), length-enumerate_from 0 l)
+
+    is : ◌≡◌ {A = ℕ × ℕ} (k, w) (0 + (n + i), get_or l (n + i) w)
+    is = e ∙ get_or-drop n (enumerate_from 0 l) i (k, w) ∙ get_or-enumerate_from 0 l (n + i) (k, w) below
+
+pub numbered_end : (l : List ℕ) (n i : ℕ) → i ≡ length (drop n (enumerate_from 0 l)) → length l ≤ n + i
+numbered_end l n i e = omega (arith, e, length-drop n (enumerate_from 0 l), length-enumerate_from 0 l)
+
 -- a word that is 0 has no bit
 pub none_of_zero : (w s : ℕ) → w ≡ 0 → NoneFrom (digit w) s
 none_of_zero w s e j l = ap (λ x. digit x j) e ∙ digit_none j
@@ -93,10 +108,21 @@ some_of_word l k fits some =
     below : count_trailing_zeros 32 (get_or l k 0) < 32
     below = trailing_lt 32 (get_or l k 0) fits (go (cases_eq (get_or l k 0) 0))
 
--- ---- members counted: so many in the first i words, and those that are left
+-- a set has no member where each of its words is 0
+pub empty_words : (l : List ℕ) (r : Bool) → ((k : ℕ) → get_or l k 0 < 2 ^ 32)
+    → MatchBool r (AllWithin (λ w. w ≡ 0) l 0 (length l)) ((k : ℕ) × (k < length l) × HoldsAt (λ w. w ≡ 0 → ⊥) l k) → r ≡ eqb (size l) 0
+empty_words l true fits all = sym (eq-eqb (size l) 0 (none_size l out))
+  where
+    word : (k : ℕ) → (k < length l) ⊎ (length l ≤ k) → get_or l k 0 ≡ 0
+    word k (inl h) = all k 0 (omega arith) h
+    word k (inr h) = get_or_past l k 0 h
 
-abbrev pub Counted : List ℕ → ℕ → ℕ → Type 0
-Counted l i n = n + size (drop i l) ≡ size l
+    out : (j : ℕ) → members l j ≡ false
+    out j = ap (members l) (let t : j ≡ 32 * (j / 32) + j % 32 = omega arith in t) ∙ members_at l (j / 32) (j % 32) (omega arith)
+        ∙ none_of_zero (get_or l (j / 32) 0) 0 (word (j / 32) (cases_lt (j / 32) (length l))) (j % 32) (omega arith)
+empty_words l false fits (k, h, some) = sym (ne_eqb (size l) 0 (λ e. let p = some_of_word l k (fits k) (some 0) in omega arith))
+
+-- ---- members counted
 
 members_cons : (w : ℕ) (ws : List ℕ) (j : ℕ) → members (w ∷ ws) (32 + j) ≡ members ws j
 unfolding members
@@ -123,25 +149,16 @@ pub size_nil : size [] ≡ 0
 unfolding size
 size_nil = count_zero (members [])
 
-pub counted_start : (l : List ℕ) → Counted l 0 0
-counted_start l = omega arith
-
-pub counted_more : (l : List ℕ) (i n : ℕ) → i < length l → get_or l i 0 < 2 ^ 32 → Counted l i n → Counted l (i + 1) (n + ones (get_or l i 0))
-counted_more l i n h fits c =
-    let e : size (drop i l) ≡ ones (get_or l i 0) + size (drop (i + 1) l) = ap size (drop_more l i 0 h) ∙ size_cons (get_or l i 0) (drop (i + 1) l) fits in
-    omega arith
-
-pub counted_all : (l : List ℕ) (i n : ℕ) → length l ≤ i → Counted l i n → n ≡ size l
-counted_all l i n h c = let e : size (drop i l) ≡ 0 = ap size (drop_all i l h) ∙ size_nil in omega arith
+-- the bits of each word, summed up
+pub ones_summed : (l : List ℕ) → ((k : ℕ) → get_or l k 0 < 2 ^ 32) → sum_by ones l ≡ size l
+ones_summed [] fits = sym size_nil
+ones_summed (w ∷ ws) fits = sum_by-cons ones w ws ∙ ap (λ n. ones w + n) (ones_summed ws (λ k. fits (suc k))) ∙ sym (size_cons w ws (fits 0))
 
 -- ---- the places below n, in the first i words
 
 pub record Filled (l : List ℕ) (n i left : ℕ) : Type 0 where
   pub rest : left ≡ n - 32 * i
   pub are : (j : ℕ) → j < 32 * i → members l j ≡ ltb j n
-
-pub filled_start : (l : List ℕ) (n : ℕ) → Filled l n 0 n
-filled_start l n = record { rest = omega arith; are = λ j h. absurd (omega arith) }
 
 pub filled_more : (l : List ℕ) (n i left here w : ℕ) → i < length l → here ≡ min left 32 → w ≡ 2 ^ here - 1 → Filled l n i left
     → Filled (set l i w) n (i + 1) (left - here)

@@ -6,7 +6,8 @@ use Rattle.endless.specs.Games.{Game, Reads, weight}
 use Rattle.endless.specs.Bits.{count}
 use Rattle.endless.specs.Weights.{weighing, occurs, kinds}
 use Rattle.endless.specs.Graph.{Reading}
-use Rattle.endless.proofs.Reading.{reading_start, here_before, places_are, places_most, weight_lt}
+use Rattle.endless.proofs.Places.{ok_size, weight_below}
+use Rattle.endless.proofs.Reading.{reading_start, here_before, places_are}
 use Rattle.endless.proofs.CountLaws.{one_if, count_zero, count_suc, count_le, count_same}
 
 -- the first i places counted by their weights
@@ -59,10 +60,10 @@ module _ (s : List ℕ) (i at : ℕ) (counts : List ℕ) (before : i < get_or s 
   weight_is g reads = is ∙ (here_before s g reads i at before (inv g reads).0).weighs
 
   pub weighed_index : (g : Game) → Reads s g → w < 256
-  weighed_index g reads = omega (arith, weight_is g reads, places_are s g reads, weight_lt s g reads i)
+  weighed_index g reads = omega (arith, weight_is g reads, places_are s g reads, weight_below reads i)
 
   pub weighed_fits : (g : Game) → Reads s g → get_or counts w 0 + 1 < 2 ^ 32
-  weighed_fits g reads = omega (arith, tallied_le g i counts (inv g reads).1 w, places_are s g reads, places_most s g reads)
+  weighed_fits g reads = omega (arith, tallied_le g i counts (inv g reads).1 w, places_are s g reads, (ok_size s g reads).1)
 
   pub weighed_more : Weighed s (i + 1) (at + (3 + m)) (set counts w (get_or counts w 0 + 1))
   weighed_more g reads =

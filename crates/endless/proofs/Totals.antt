@@ -1,15 +1,12 @@
 -- Counts and their running sums.
-use Rattle.std.proofs.Common.{◌≡◌, ℕ, suc, ◌+◌, ◌^◌, ◌<◌, ◌≤◌, eqb, ◌⊎◌, List, length, get_or, take, set, sym, refl, ap, ◌∙◌, subst, inl, inr, add-one, arith}
-use Rattle.std.proofs.lemmas.List.{get_or-set_same, get_or-set_other, take_all}
+use Rattle.std.proofs.Common.{◌≡◌, ℕ, suc, ◌+◌, ◌^◌, ◌<◌, ◌≤◌, eqb, ◌⊎◌, List, length, get_or, take, set, sym, refl, ap, ◌∙◌, inl, inr, add-one, arith}
+use Rattle.std.proofs.lemmas.List.{get_or-set_same, get_or-set_other}
 use Rattle.std.proofs.lemmas.Bool.{cases_eq, eq-eqb, ne_eqb}
 use Rattle.endless.specs.Graph.{times, upto, Counts}
 use Rattle.endless.proofs.CountLaws.{one_if}
 use Rattle.endless.proofs.Sources.{times_more, times_here, upto_zero, upto_suc, upto_mono}
 
 -- ---- one more counted
-
-pub counts_start : (counts targets : List ℕ) → Counts counts (take 0 targets) counts
-counts_start counts targets m = omega arith
 
 pub counts_more : (counts targets : List ℕ) (k : ℕ) (now after : List ℕ) → Counts counts (take k targets) now → k < length targets
     → get_or targets k 0 < length now → (many : ℕ) → many ≡ get_or now (get_or targets k 0) 0 → after ≡ set now (get_or targets k 0) (many + 1)
@@ -30,9 +27,6 @@ pub counts_fits : (counts targets : List ℕ) (k : ℕ) (now : List ℕ) → Cou
     → ((m : ℕ) → get_or counts m 0 + times m targets < 2 ^ 64) → get_or now (get_or targets k 0) 0 + 1 < 2 ^ 64
 counts_fits counts targets k now inv h fits =
     omega (arith, inv (get_or targets k 0), times_here targets k h, fits (get_or targets k 0))
-
-pub counts_all : (counts targets : List ℕ) (k : ℕ) (now : List ℕ) → Counts counts (take k targets) now → length targets ≤ k → Counts counts targets now
-counts_all counts targets k now inv h = subst (λ l. Counts counts l now) (take_all k targets h) inv
 
 -- ---- the first i counts summed up
 

@@ -6,16 +6,11 @@ use Rattle.endless.specs.Games.{Game, whose, weight, Among, first, later, May}
 use Rattle.endless.specs.Says.{Round, last, then1, goes}
 use Rattle.endless.specs.Sets.{Set, In, Out, Each}
 use Rattle.endless.specs.Bits.{members, size}
-use Rattle.endless.specs.View.{Shows, Graphs}
-use Rattle.endless.specs.declared.graph.Places.{Places}
-use Rattle.endless.specs.declared.graph.Graph.{Graph}
 use Rattle.endless.specs.Pulling.{Passed, Moved}
 use Rattle.endless.specs.Flaws.{Step, Walk}
 use Rattle.endless.specs.Tracing.{Tracing, Remained, Joined, Visited, Searched, Traces}
 use Rattle.endless.proofs.Tests.{T_true}
-use Rattle.endless.proofs.Places.{from_place}
 use Rattle.endless.proofs.Sets.{in_or_out}
-use Rattle.endless.proofs.Sources.{preds_may}
 use Rattle.endless.proofs.Looking.{Lists, may_at}
 use Rattle.endless.proofs.Working.{removed_out, removed_within, removed_which, moved_none, moved_then}
 
@@ -25,11 +20,11 @@ walk_more g X w plan k n m x s i l (inl e) = let t = subst (λ (j : ℕ). Step g
 walk_more g X w plan k n m x s i l (inr t) = (n ∷ t.1.0, then1 s.0 s.1 t.1.1, ((i, l), t.1.2))
 
 -- one place is looked at: what moved
-pub visited_moves : (v : Places) (w : ℕ) (plan : ℕ → ℕ) (k from to tail : ℕ) (left queue left' queue' answer : List ℕ) (r : ℕ) → tail + size left ≤ length queue → Visited v w plan k from to tail left queue left' queue' r → Moved left queue answer tail left' queue' answer r
-visited_moves v w plan k from to tail left queue left' queue' answer r space (inl t) =
+pub visited_moves : (g : Game) (w : ℕ) (plan : ℕ → ℕ) (k from to tail : ℕ) (left queue left' queue' answer : List ℕ) (r : ℕ) → tail + size left ≤ length queue → Visited g w plan k from to tail left queue left' queue' r → Moved left queue answer tail left' queue' answer r
+visited_moves g w plan k from to tail left queue left' queue' answer r space (inl t) =
     let s = t.1 in
     subst (λ (l : List ℕ). Moved left queue answer tail l queue' answer r) (sym s.left_is) (subst (λ (q : List ℕ). Moved left queue answer tail left q answer r) (sym s.queue_is) (subst (λ (j : ℕ). Moved left queue answer tail left queue answer j) (sym t.0) (moved_none left queue answer tail)))
-visited_moves v w plan k from to tail left queue left' queue' answer r space (inr t) =
+visited_moves g w plan k from to tail left queue left' queue' answer r space (inr t) =
     let c = t.1 in
     let shrinks = c.left_is.shrinks (T_true _ c.was) in
     record {
@@ -48,20 +43,20 @@ visited_moves v w plan k from to tail left queue left' queue' answer r space (in
 abbrev Awaits : Game → ℕ → (ℕ → ℕ) → ℕ → ℕ → List ℕ → List ℕ → Type 0
 Awaits g w plan k to left ns = (n : ℕ) → In (members left) n → weight g n ≤ k → Step g w plan n to → Among n ns
 
-module _ (v : Places) (w : ℕ) (plan : ℕ → ℕ) (k from to tail : ℕ) (left queue left' queue' : List ℕ) (g : Game) (X : Set) (x head : ℕ) (shows : Shows v g) (place : from < length g) (may : May g from to)
+module _ (g : Game) (w : ℕ) (plan : ℕ → ℕ) (k from to tail : ℕ) (left queue left' queue' : List ℕ) (X : Set) (x head : ℕ) (may : May g from to)
     (order : head ≤ tail) (comes : (to ≡ x) ⊎ (In X to × Walk g X w plan k to x)) (so_far : Tracing g X w plan k x (members left) queue head tail) (ns : List ℕ) (waits : Awaits g w plan k to left (from ∷ ns)) where
   passed_by : (n : ℕ) → (n ≡ from → ⊥) → Among n (from ∷ ns) → Among n ns
   passed_by n d first = absurd (d refl)
   passed_by n d (later a) = a
 
-  remained : Remained v w plan k from to left queue left' queue' → Awaits g w plan k to left ns
+  remained : Remained g w plan k from to left queue left' queue' → Awaits g w plan k to left ns
   remained s n i l step = go (cases_eq n from)
     where
       go : (n ≡ from) ⊎ (n ≡ from → ⊥) → Among n ns
-      go (inl e) = absurd (s.why g shows place (subst (λ (j : ℕ). In (members left) j) e i) (subst (λ (j : ℕ). weight g j ≤ k) e l) (λ q. subst (λ (j : ℕ). whose g j ≡ w → to ≡ plan j) e step.1 q))
+      go (inl e) = absurd (s.why (subst (λ (j : ℕ). In (members left) j) e i) (subst (λ (j : ℕ). weight g j ≤ k) e l) (λ q. subst (λ (j : ℕ). whose g j ≡ w → to ≡ plan j) e step.1 q))
       go (inr d) = passed_by n d (waits n i l step)
 
-  module _ (space : tail < length queue) (c : Joined v w plan k from to tail left queue left' queue') where
+  module _ (space : tail < length queue) (c : Joined g w plan k from to tail left queue left' queue') where
     front : (j : ℕ) → j < tail → get_or queue' j 0 ≡ get_or queue j 0
     front j h = ap (λ (q : List ℕ). get_or q j 0) c.queue_is ∙ get_or-set_other queue tail j from 0 (omega arith)
 
@@ -72,7 +67,7 @@ module _ (v : Places) (w : ℕ) (plan : ℕ → ℕ) (k from to tail : ℕ) (lef
     inside = so_far.within from c.was
 
     walk : Walk g X w plan k from x
-    walk = walk_more g X w plan k from to x (may, c.by_plan g shows place) inside (c.light g shows place) comes
+    walk = walk_more g X w plan k from to x (may, c.by_plan) inside c.light comes
 
     was_out : (n : ℕ) → Out (members left') n → (n ≡ from → ⊥) → Out (members left) n
     was_out n o d y = go (removed_which left from left' c.left_is n y)
@@ -111,7 +106,7 @@ module _ (v : Places) (w : ℕ) (plan : ℕ → ℕ) (k from to tail : ℕ) (lef
         go (inl e) = absurd (removed_out left from left' c.left_is (subst (λ (j : ℕ). In (members left') j) e y))
         go (inr d) = passed_by n d (waits n (removed_within left from left' c.left_is n y) l step)
 
-  pub tracing_step : (r : ℕ) → tail + size left ≤ length queue → Visited v w plan k from to tail left queue left' queue' r → Tracing g X w plan k x (members left') queue' head r × Awaits g w plan k to left' ns
+  pub tracing_step : (r : ℕ) → tail + size left ≤ length queue → Visited g w plan k from to tail left queue left' queue' r → Tracing g X w plan k x (members left') queue' head r × Awaits g w plan k to left' ns
   tracing_step r space (inl t) =
       let s = t.1 in (
         subst (λ (l : List ℕ). Tracing g X w plan k x (members l) queue' head r) (sym s.left_is) (subst (λ (q : List ℕ). Tracing g X w plan k x (members left) q head r) (sym s.queue_is) (subst (λ (j : ℕ). Tracing g X w plan k x (members left) queue head j) (sym t.0) so_far)),
@@ -124,24 +119,17 @@ module _ (v : Places) (w : ℕ) (plan : ℕ → ℕ) (k from to tail : ℕ) (lef
 
 -- ---- the places that may move to one: i of them have been looked at
 
-pub record Visiting (v : Graph) (w : ℕ) (answer : List ℕ) (k to : ℕ) (items left queue : List ℕ) (tail i : ℕ) (left' queue' : List ℕ) (tail' : ℕ) : Type 0 where
+pub record Visiting (g : Game) (w : ℕ) (answer : List ℕ) (k to : ℕ) (items left queue : List ℕ) (tail i : ℕ) (left' queue' : List ℕ) (tail' : ℕ) : Type 0 where
   pub moved : Moved left queue answer tail left' queue' answer tail'
-  pub works : (g : Game) (X : Set) (x head : ℕ) → Graphs v g → to < length g → head ≤ tail → (to ≡ x) ⊎ (In X to × Walk g X w (goes answer) k to x) → Tracing g X w (goes answer) k x (members left) queue head tail → Tracing g X w (goes answer) k x (members left') queue' head tail' × Awaits g w (goes answer) k to left' (drop i items)
+  pub works : (X : Set) (x head : ℕ) → head ≤ tail → (to ≡ x) ⊎ (In X to × Walk g X w (goes answer) k to x) → Tracing g X w (goes answer) k x (members left) queue head tail → Tracing g X w (goes answer) k x (members left') queue' head tail' × Awaits g w (goes answer) k to left' (drop i items)
 
-pub visiting_none : (v : Graph) (w : ℕ) (answer : List ℕ) (k to : ℕ) (items left queue : List ℕ) (tail : ℕ) → Lists v to items → Visiting v w answer k to items left queue tail 0 left queue tail
-visiting_none v w answer k to items left queue tail lists = record {
-  moved = moved_none left queue answer tail;
-  works = λ g X x head gr h o c work. (work, λ n i l step. subst (λ (y : List ℕ). Among n y) (sym (lists g h gr)) ((preds_may g to n).1 step.0));
-}
-
-pub visiting_more : (v : Graph) (w : ℕ) (answer : List ℕ) (k to : ℕ) (items left queue : List ℕ) (tail i : ℕ) (l q : List ℕ) (t : ℕ) (l' q' : List ℕ) (t' : ℕ) → Lists v to items → i < length items → t + size l ≤ length q →
-    Visiting v w answer k to items left queue tail i l q t → Visited v.places w (goes answer) k (get_or items i 0) to t l q l' q' t' → Visiting v w answer k to items left queue tail (i + 1) l' q' t'
-visiting_more v w answer k to items left queue tail i l q t l' q' t' lists h space so_far p = record {
-  moved = moved_then left queue answer tail l q answer t l' q' answer t' so_far.moved (visited_moves v.places w (goes answer) k (get_or items i 0) to t l q l' q' answer t' space p);
-  works = λ g X x head gr lt o c work.
-      let may = may_at v to items lists g lt gr i h in
-      let here = so_far.works g X x head gr lt o c work in
-      tracing_step v.places w (goes answer) k (get_or items i 0) to t l q l' q' g X x head gr.shows (from_place g (get_or items i 0) to may) may (omega (arith, so_far.moved.grows)) c here.0 (drop (i + 1) items)
+pub visiting_more : (g : Game) (w : ℕ) (answer : List ℕ) (k to : ℕ) (items left queue : List ℕ) (tail i : ℕ) (l q : List ℕ) (t : ℕ) (l' q' : List ℕ) (t' : ℕ) → Lists g to items → i < length items → t + size l ≤ length q →
+    Visiting g w answer k to items left queue tail i l q t → Visited g w (goes answer) k (get_or items i 0) to t l q l' q' t' → Visiting g w answer k to items left queue tail (i + 1) l' q' t'
+visiting_more g w answer k to items left queue tail i l q t l' q' t' lists h space so_far p = record {
+  moved = moved_then left queue answer tail l q answer t l' q' answer t' so_far.moved (visited_moves g w (goes answer) k (get_or items i 0) to t l q l' q' answer t' space p);
+  works = λ X x head o c work.
+      let here = so_far.works X x head o c work in
+      tracing_step g w (goes answer) k (get_or items i 0) to t l q l' q' X x head (may_at g to items lists i h) (omega (arith, so_far.moved.grows)) c here.0 (drop (i + 1) items)
       (λ n y b s. subst (λ (z : List ℕ). Among n z) (drop_more items i 0 h) (here.1 n y b s)) t' space p;
 }
 
@@ -151,49 +139,26 @@ none_among n ns e a = go (subst (λ (l : List ℕ). Among n l) e a)
     go : Among n [] → ⊥
     go b = elim b [ ]
 
-pub visiting_all : (v : Graph) (w : ℕ) (answer : List ℕ) (k to : ℕ) (items left queue : List ℕ) (tail i : ℕ) (l q : List ℕ) (t : ℕ) → length items ≤ i → Visiting v w answer k to items left queue tail i l q t → Searched v w (goes answer) k to left queue tail l q t
-visiting_all v w answer k to items left queue tail i l q t h so_far g X x head gr lt o c work =
-    let r = so_far.works g X x head gr lt o c work in
+pub visiting_all : (g : Game) (w : ℕ) (answer : List ℕ) (k to : ℕ) (items left queue : List ℕ) (tail i : ℕ) (l q : List ℕ) (t : ℕ) → length items ≤ i → Visiting g w answer k to items left queue tail i l q t → Searched g w (goes answer) k to left queue tail l q t
+visiting_all g w answer k to items left queue tail i l q t h so_far X x head o c work =
+    let r = so_far.works X x head o c work in
     (r.0, λ n y b s. none_among n (drop i items) (drop_all i items h) (r.1 n y b s))
 
 -- ---- the queue
 
-pub record Queued (v : Graph) (w : ℕ) (answer : List ℕ) (k : ℕ) (left queue : List ℕ) (head : ℕ) (left' queue' : List ℕ) (tail : ℕ) : Type 0 where
+pub record Queued (g : Game) (w : ℕ) (answer : List ℕ) (k : ℕ) (left queue : List ℕ) (head : ℕ) (left' queue' : List ℕ) (tail : ℕ) : Type 0 where
   pub order : head ≤ tail
   pub moved : Moved left queue answer 1 left' queue' answer tail
-  pub works : (g : Game) → Graphs v g → Tracing g (members left) w (goes answer) k (get_or queue 0 0) (members left') queue' head tail
+  pub works : Tracing g (members left) w (goes answer) k (get_or queue 0 0) (members left') queue' head tail
 
-pub queued_none : (v : Graph) (w : ℕ) (answer : List ℕ) (k : ℕ) (left queue : List ℕ) → Queued v w answer k left queue 0 left queue 1
-queued_none v w answer k left queue = record {
-  order = omega arith;
-  moved = moved_none left queue answer 1;
-  works = λ g gr. record {
-    within = λ n y. y;
-    first = refl;
-    some_first = omega arith;
-    queued = λ j h. let e : j ≡ 0 = omega arith in inl (ap (λ (i : ℕ). get_or queue i 0) e);
-    walks = λ n y o. absurd (o y);
-    listed = λ n y o. absurd (o y);
-    looked = λ n m y l p. absurd (omega (arith, p.1));
-  };
-}
-
--- every place in the queue is one of the game
-pub queued_inside : {v : Graph} {w : ℕ} {answer : List ℕ} {k : ℕ} {left queue : List ℕ} {head : ℕ} {l q : List ℕ} {t : ℕ} (b : ℕ) → Queued v w answer k left queue head l q t → ((n : ℕ) → In (members left) n → n < b) → get_or queue 0 0 < b → (j : ℕ) → j < t → get_or q j 0 < b
-queued_inside {v} {w} {answer} {k} {left} {queue} {head} {l} {q} {t} b so_far lefts first-in j h = go (cases_lt j 1)
-  where
-    go : (j < 1) ⊎ (1 ≤ j) → get_or q j 0 < b
-    go (inl y) = let e : j ≡ 0 = omega arith in omega (arith, so_far.moved.front j y, ap (λ (i : ℕ). get_or queue i 0) e, first-in)
-    go (inr y) = lefts (get_or q j 0) (so_far.moved.came j y h)
-
-pub queued_more : {v : Graph} {w : ℕ} {answer : List ℕ} {k : ℕ} {left queue : List ℕ} {head : ℕ} {l q : List ℕ} {t : ℕ} {l' q' : List ℕ} {t' : ℕ} (next : ℕ) → head < t → next ≡ head + 1 → ((g : Game) → Graphs v g → get_or q head 0 < length g) → Queued v w answer k left queue head l q t → Moved l q answer t l' q' answer t' →
-    Searched v w (goes answer) k (get_or q head 0) l q t l' q' t' → Queued v w answer k left queue next l' q' t'
-queued_more {v} {w} {answer} {k} {left} {queue} {head} {l} {q} {t} {l'} {q'} {t'} next h is inside so_far m search = record {
+pub queued_more : {g : Game} {w : ℕ} {answer : List ℕ} {k : ℕ} {left queue : List ℕ} {head : ℕ} {l q : List ℕ} {t : ℕ} {l' q' : List ℕ} {t' : ℕ} (next : ℕ) → head < t → next ≡ head + 1 → Queued g w answer k left queue head l q t → Moved l q answer t l' q' answer t' →
+    Searched g w (goes answer) k (get_or q head 0) l q t l' q' t' → Queued g w answer k left queue next l' q' t'
+queued_more {g} {w} {answer} {k} {left} {queue} {head} {l} {q} {t} {l'} {q'} {t'} next h is so_far m search = record {
   order = omega (arith, m.grows);
   moved = moved_then left queue answer 1 l q answer t l' q' answer t' so_far.moved m;
-  works = λ g gr.
-      let work = so_far.works g gr in
-      let r = search g (members left) (get_or queue 0 0) head gr (inside g gr) (omega arith) (work.queued head h) work in
+  works =
+      let work = so_far.works in
+      let r = search (members left) (get_or queue 0 0) head (omega arith) (work.queued head h) work in
       let z = r.0 in
       record {
         within = z.within;
@@ -202,14 +167,14 @@ queued_more {v} {w} {answer} {k} {left} {queue} {head} {l} {q} {t} {l'} {q'} {t'
         queued = z.queued;
         walks = z.walks;
         listed = z.listed;
-        looked = λ n j y b p s. looked g z r.1 n j y b p s (cases_lt p.0 head);
+        looked = λ n j y b p s. looked z r.1 n j y b p s (cases_lt p.0 head);
       };
 }
   where
-    looked : (g : Game) → Tracing g (members left) w (goes answer) k (get_or queue 0 0) (members l') q' head t' → ((n : ℕ) → In (members l') n → weight g n ≤ k → Step g w (goes answer) n (get_or q head 0) → ⊥) →
+    looked : Tracing g (members left) w (goes answer) k (get_or queue 0 0) (members l') q' head t' → ((n : ℕ) → In (members l') n → weight g n ≤ k → Step g w (goes answer) n (get_or q head 0) → ⊥) →
         (n j : ℕ) → In (members l') n → weight g n ≤ k → (p : Passed q' next j) → Step g w (goes answer) n j → (p.0 < head) ⊎ (head ≤ p.0) → ⊥
-    looked g z none n j y b p s (inl c) = z.looked n j y b (p.0, c, p.2) s
-    looked g z none n j y b p s (inr c) =
+    looked z none n j y b p s (inl c) = z.looked n j y b (p.0, c, p.2) s
+    looked z none n j y b p s (inr c) =
         let e : p.0 ≡ head = omega (arith, p.1) in
         let same : get_or q head 0 ≡ j = sym (m.front head h) ∙ sym (ap (λ (i : ℕ). get_or q' i 0) e) ∙ p.2 in
         none n y b (subst (λ (i : ℕ). Step g w (goes answer) n i) (sym same) s)

@@ -117,10 +117,7 @@ reduces_all g U L out none k = k.solves out refl (λ n x. (refl, refl)) (record 
   };
 })
 
--- a subgame is closed in itself; and all of it its own attractor
-pub closed_whole : (g : Game) (U : Set) → Closed g U U
-closed_whole g U = record { within = λ n x. x; stays = λ n m x may y. y }
-
+-- all of a subgame is its own attractor
 pub peeled_whole : (g : Game) (U R : Set) (w : ℕ) (L : Set) (out : List ℕ) → Within R U → Within U R → ((n : ℕ) → Out L n) → Peeled g U w R L out out
 peeled_whole g U R w L out to fro none = record {
   within = λ n x. absurd (none n x);

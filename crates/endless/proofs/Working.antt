@@ -8,8 +8,6 @@ use Rattle.endless.specs.Says.{side, goes}
 use Rattle.endless.specs.Sets.{Set, In, Out, Within, minus}
 use Rattle.endless.specs.Subgames.{Subgame}
 use Rattle.endless.specs.Bits.{members, size, Removed}
-use Rattle.endless.specs.View.{Graphs}
-use Rattle.endless.specs.declared.graph.Graph.{Graph}
 use Rattle.endless.specs.Pulling.{Pulling, Passed, Working, Stayed, Came, Pulled, Unchanged, Moved, Starts, Attracts}
 use Rattle.endless.proofs.Tests.{T_true}
 use Rattle.endless.proofs.Nth.{nth_in, nth_out}
@@ -102,9 +100,9 @@ moved_then l q o t l' q' o' t' l'' q'' o'' t'' a b = record {
     came j low high (inl h) = subst (λ (n : ℕ). In (members l) n) (sym (b.front j h)) (a.came j low h)
     came j low high (inr h) = a.less (get_or q'' j 0) (b.came j h high)
 
-module _ (v : Graph) (w from to tail : ℕ) (left queue out left' queue' out' : List ℕ) where
+module _ (g : Game) (w from to tail : ℕ) (left queue out left' queue' out' : List ℕ) where
   -- one place is looked at
-  pub pulled_moves : (r : ℕ) → 2 * from + 1 < length out → tail + size left ≤ length queue → Pulled v w from to tail left queue out left' queue' out' r → Moved left queue out tail left' queue' out' r
+  pub pulled_moves : (r : ℕ) → 2 * from + 1 < length out → tail + size left ≤ length queue → Pulled g w from to tail left queue out left' queue' out' r → Moved left queue out tail left' queue' out' r
   pulled_moves r room space (inl t) =
       let s = t.1 in
       subst (λ (l : List ℕ). Moved left queue out tail l queue' out' r) (sym s.left_is) (subst (λ (q : List ℕ). Moved left queue out tail left q out' r) (sym s.queue_is) (subst (λ (o : List ℕ). Moved left queue out tail left queue o r) (sym s.out_is) (subst (λ (k : ℕ). Moved left queue out tail left queue out k) (sym t.0) (moved_none left queue out tail))))
@@ -123,15 +121,15 @@ module _ (v : Graph) (w from to tail : ℕ) (left queue out left' queue' out' : 
         frame = λ n x. subst (λ (o : List ℕ). Unchanged out o n) (sym c.out_is) (put_unchanged out from w to room n (λ e. removed_out left from left' c.left_is (subst (λ (j : ℕ). In (members left') j) e (x (subst (λ (j : ℕ). In (members left) j) (sym e) c.was)))));
       }
 
-  module _ (g : Game) (U : Set) (D : Set) (head : ℕ) (ns : List ℕ) (shows : Graphs v g) (place : from < length g) (may : May g from to) (in-to : In U to) (out-to : Out (members left) to) (work : Working g U w D left queue out head tail (from ∷ ns)) where
-    stayed : Stayed v w from left queue out left' queue' out' → Working g U w D left queue out head tail ns
-    stayed s = record { order = work.order; pulling = go (s.why g shows place); queued = work.queued; listed = work.listed; labelled = work.labelled }
+  module _ (U D : Set) (head : ℕ) (ns : List ℕ) (may : May g from to) (in-to : In U to) (out-to : Out (members left) to) (work : Working g U w D left queue out head tail (from ∷ ns)) where
+    stayed : Stayed g w from left queue out left' queue' out' → Working g U w D left queue out head tail ns
+    stayed s = record { order = work.order; pulling = go s.why; queued = work.queued; listed = work.listed; labelled = work.labelled }
       where
         go : Out (members left) from ⊎ ((whose g from ≡ w → ⊥) × ((m : ℕ) × May g from m × In (members left) m)) → Pulling g U w D (members left) (Passed queue head) ns (goes out)
         go (inl o) = pulling_skip g U w D (members left) (Passed queue head) (goes out) from ns work.pulling o
         go (inr t) = pulling_stays g U w D (members left) (Passed queue head) (goes out) from ns work.pulling t.1.0 t.0 t.1.1 t.1.2
 
-    module _ (room : 2 * from + 1 < length out) (space : tail < length queue) (c : Came v w from to tail left queue out left' queue' out') where
+    module _ (room : 2 * from + 1 < length out) (space : tail < length queue) (c : Came g w from to tail left queue out left' queue' out') where
       same_words : (n : ℕ) → (n ≡ from → ⊥) → Unchanged out out' n
       same_words n d = subst (λ (o : List ℕ). Unchanged out o n) (sym c.out_is) (put_unchanged out from w to room n d)
 
@@ -153,7 +151,7 @@ module _ (v : Graph) (w from to tail : ℕ) (left queue out left' queue' out' : 
         outside = λ x. minus_out U (members left) from x c.was;
         move = to;
         brings = λ e. (may, minus_in U (members left) to in-to out-to);
-        has_to = λ m theirs a u. minus_in U (members left) m u (λ x. c.why g shows place theirs m a x);
+        has_to = λ m theirs a u. minus_in U (members left) m u (λ x. c.why theirs m a x);
       }
 
       came : Working g U w D left' queue' out' head (tail + 1) ns
@@ -187,7 +185,7 @@ module _ (v : Graph) (w from to tail : ℕ) (left queue out left' queue' out' : 
           labelled n u d o (inr e) = same_side out out' n same_length (same_words n e) ∙ work.labelled n u d (was_out n o e)
 
     -- the state after
-    pub working_step : (r : ℕ) → 2 * from + 1 < length out → tail + size left ≤ length queue → Pulled v w from to tail left queue out left' queue' out' r → Working g U w D left' queue' out' head r ns
+    pub working_step : (r : ℕ) → 2 * from + 1 < length out → tail + size left ≤ length queue → Pulled g w from to tail left queue out left' queue' out' r → Working g U w D left' queue' out' head r ns
     working_step r room space (inl t) =
         let s = t.1 in
         subst (λ (l : List ℕ). Working g U w D l queue' out' head r ns) (sym s.left_is) (subst (λ (q : List ℕ). Working g U w D left q out' head r ns) (sym s.queue_is) (subst (λ (o : List ℕ). Working g U w D left queue o head r ns) (sym s.out_is) (subst (λ (k : ℕ). Working g U w D left queue out head k ns) (sym t.0) (stayed s))))

@@ -1,15 +1,15 @@
 -- The parts that the lent words are cut into.
-use Rattle.std.specs.Prelude.{◌≡◌, ℕ, ◌+◌, ◌*◌, ◌/◌, ◌^◌, ◌<◌, ◌≤◌, List, length, nat_lt}
+use Rattle.std.specs.Prelude.{◌≡◌, ℕ, ◌+◌, ◌*◌, ◌/◌, ◌^◌, ◌<◌, ◌≤◌, List, length, nat_lt, Ok, Err, Result}
 use Rattle.endless.specs.Games.{Game, Reads, weight}
 use Rattle.endless.specs.Graph.{edges}
 use Rattle.endless.specs.Bits.{members, size}
-use Rattle.endless.specs.View.{Graphs}
 use Rattle.endless.specs.Weights.{kinds}
 use Rattle.endless.specs.Pulling.{Sized}
 use Rattle.endless.specs.Levels.{levels}
 use Rattle.endless.specs.declared.layout.Layout.{Layout}
-use Rattle.endless.specs.declared.layout.OutRoom.{OutRoom}
-use Rattle.endless.specs.declared.layout.OutRoom.TheVariants.{Enough, Short}
+use Rattle.endless.specs.declared.layout.Short.{Short}
+use Rattle.endless.specs.declared.refusal.Refusal.{Refusal}
+use Rattle.endless.specs.declared.refusal.Refusal.TheVariants.{Few, NoGame, NoPlace, OutFull}
 
 -- how many words a set of n places takes
 abbrev pub width : ℕ → ℕ
@@ -28,19 +28,28 @@ abbrev pub LevelsFall : Type 0
 LevelsFall = (g : Game) (n h bound : ℕ) → n < length g → weight g n ≡ h → h < bound → levels g h + 1 ≤ levels g bound
 
 -- whether an answer for n places has room in so many words
-abbrev pub OutRoomIs : ℕ → ℕ → OutRoom → Type 0
-OutRoomIs n given Enough = 2 * n ≤ given
-OutRoomIs n given (Short x y) = (x ≡ 2 * n) × (y ≡ given) × (given < 2 * n)
+abbrev pub OutRoomIs : ℕ → ℕ → Result (Unit {0}) Short → Type 0
+OutRoomIs n given (Ok u) = 2 * n ≤ given
+OutRoomIs n given (Err e) = (e.needed ≡ 2 * n) × (e.given ≡ given) × (given < 2 * n)
+
+-- whether words can be worked on: enough are lent, and they are a game
+abbrev pub Accepts : List ℕ → ℕ → Result (Unit {0}) Refusal → Type 0
+Accepts s lent (Ok u) = (65536 + 4 * length s ≤ lent) × ((g : Game) × Reads s g)
+Accepts s lent (Err Few) = lent < 65536 + 4 * length s
+Accepts s lent (Err NoGame) = (65536 + 4 * length s ≤ lent) × ((g : Game) → Reads s g → ⊥)
+Accepts s lent (Err NoPlace) = ⊥
+Accepts s lent (Err OutFull) = ⊥
 
 -- a game is laid out: its graph, room for its queue and its cursors, the set of all places, and room for a set for each level
 pub record LaidOut (g : Game) (r : Layout) : Type 0 where
-  pub graphs : Graphs r.graph g
+  pub is : r.graph ≡ g
   pub queue : length g ≤ length r.queue.now
   pub escapes : length g ≤ length r.escapes.now
   pub are : (j : ℕ) → members r.all.now j ≡ nat_lt j (length g)
   pub many : size r.all.now ≡ length g
   pub wide : length r.all.now ≡ width (length g)
   pub rest : kinds g * width (length g) ≤ length r.rest.now
+  pub spare : 2 * width (length g) + (length g + 1) ≤ length r.rest.now
 
 -- a game to begin with: the set of all its places, and room for them in an answer, a queue and the cursors
 pub record Fresh (g : Game) (all out queue escapes : List ℕ) : Type 0 where

@@ -7,20 +7,12 @@ use Rattle.endless.specs.Subgames.{Subgame, Solves}
 use Rattle.endless.specs.Attractors.{Attractor}
 use Rattle.endless.specs.Bits.{members, count, size, Removed}
 use Rattle.endless.specs.Weights.{occurs}
-use Rattle.endless.specs.View.{Shows}
-use Rattle.endless.specs.declared.graph.Places.{Places}
 use Rattle.endless.specs.Pulling.{Unchanged, Starts, Sized}
 
 -- h is the heaviest weight in a set, and some place of it has it
 pub record HeaviestIn (g : Game) (U : Set) (h : ℕ) : Type 0 where
   pub most : (n : ℕ) → In U n → weight g n ≤ h
   pub some_place : (n : ℕ) × In U n × (weight g n ≡ h)
-
--- the places of weight h of a set stand in the queue, are given to a side, with a move of each into the set; the others are left
-pub record Gathered (g : Game) (U : Set) (w h : ℕ) (left queue out : List ℕ) (count : ℕ) : Type 0 where
-  pub starts : Starts U (having U (weight g) h) left queue count
-  pub labelled : (n : ℕ) → In (having U (weight g) h) n → side out n ≡ w
-  pub moves : Subgame g U → (n : ℕ) → In (having U (weight g) h) n → May g n (goes out n) × In U (goes out n)
 
 -- h is the heaviest weight of the places of a list
 pub record HeaviestOf (g : Game) (list : List ℕ) (h : ℕ) : Type 0 where
@@ -38,22 +30,22 @@ pub record GatheredIn (g : Game) (U V : Set) (w h : ℕ) (left queue out : List 
   pub stays : (n : ℕ) → In (having U (weight g) h) n → Stays g V n (goes out n)
 
 -- a place is given to a side, with a move that stays in a set
-pub record Given (v : Places) (w n : ℕ) (U : Set) (out out' : List ℕ) : Type 0 where
+pub record Given (g : Game) (w n : ℕ) (U : Set) (out out' : List ℕ) : Type 0 where
   pub move : ℕ
   pub out_is : out' ≡ slice_set (slice_set out (2 * n) w) (2 * n + 1) move
-  pub stays : (g : Game) → Shows v g → n < length g → Stays g U n move
+  pub stays : Stays g U n move
 
 -- a place goes from what is left to the queue, given to a side with a move that stays in a set
-pub record Taken (v : Places) (w n : ℕ) (U : Set) (count : ℕ) (left queue out left' queue' out' : List ℕ) : Type 0 where
+pub record Taken (g : Game) (w n : ℕ) (U : Set) (count : ℕ) (left queue out left' queue' out' : List ℕ) : Type 0 where
   pub left_is : Removed left n left'
   pub queue_is : queue' ≡ slice_set queue count n
-  pub given : Given v w n U out out'
+  pub given : Given g w n U out out'
 
 -- it goes so, if it is left and has a weight
-abbrev pub TakenIf : Places → ℕ → ℕ → ℕ → Set → ℕ → List ℕ → List ℕ → List ℕ → List ℕ → List ℕ → List ℕ → ℕ → Type 0
-TakenIf v w h n U count left queue out left' queue' out' r =
-    ((r ≡ count) × (left' ≡ left) × (queue' ≡ queue) × (out' ≡ out) × ((g : Game) → Shows v g → n < length g → In (members left) n → weight g n ≢ h))
-    ⊎ ((r ≡ count + 1) × In (members left) n × ((g : Game) → Shows v g → n < length g → weight g n ≡ h) × Taken v w n U count left queue out left' queue' out')
+abbrev pub TakenIf : Game → ℕ → ℕ → ℕ → Set → ℕ → List ℕ → List ℕ → List ℕ → List ℕ → List ℕ → List ℕ → ℕ → Type 0
+TakenIf g w h n U count left queue out left' queue' out' r =
+    ((r ≡ count) × (left' ≡ left) × (queue' ≡ queue) × (out' ≡ out) × (In (members left) n → weight g n ≢ h))
+    ⊎ ((r ≡ count + 1) × In (members left) n × (weight g n ≡ h) × Taken g w n U count left queue out left' queue' out')
 
 -- in a part R the attractor for w of the places of weight h is taken: B is left, and the answer gives the rest to w
 pub record Brought (g : Game) (R : Set) (w h : ℕ) (B : Set) (out : List ℕ) : Type 0 where

@@ -6,8 +6,6 @@ use Rattle.endless.specs.Sets.{Set, In, Within}
 use Rattle.endless.specs.Subgames.{Closed}
 use Rattle.endless.specs.Sides.{number}
 use Rattle.endless.specs.Bits.{members, size, Removed}
-use Rattle.endless.specs.View.{Shows}
-use Rattle.endless.specs.declared.graph.Places.{Places}
 use Rattle.endless.specs.Pulling.{Passed}
 use Rattle.endless.specs.declared.side.Side.{Side}
 
@@ -40,11 +38,11 @@ pub record Part (own list : List ℕ) (R : Set) : Type 0 where
   pub told : Told list R
 
 -- a closed part is taken: some places, if there are any, told by each copy of the first `count` words of the queue
-pub record PartTaken (v : Places) (own part queue : List ℕ) (count : ℕ) : Type 0 where
+pub record PartTaken (g : Game) (own part queue : List ℕ) (count : ℕ) : Type 0 where
   pub few : count ≤ size own
   pub sizes : (count ≡ 0 → size part ≡ size own) × (0 < count → count ≡ size part)
   pub some_place : 0 < size own → 0 < size part
-  pub closed : (g : Game) → Shows v g → Closed g (members own) (members part)
+  pub closed : Closed g (members own) (members part)
   pub listed : (list : List ℕ) → length list ≡ count → ((j : ℕ) → j < count → slice_index list j ≡ slice_index queue j) → Part own list (members part)
 
 -- the places asked for: those that an answer gives to a side, or all

@@ -1,7 +1,7 @@
 -- What the public calls promise: their answers, and with them the theorems, so that the gate asks for the proofs.
-use Rattle.std.specs.Prelude.{◌≡◌, ℕ, ◌+◌, ◌*◌, ◌<◌, ◌≤◌, Bool, T, ◌↔◌, List, length, drop}
-use Rattle.endless.specs.declared.Solved.{Solved}
-use Rattle.endless.specs.declared.Solved.TheVariants.{Done, OutFull, NoGame, Few}
+use Rattle.std.specs.Prelude.{◌≡◌, ℕ, ◌+◌, ◌*◌, ◌<◌, ◌≤◌, Bool, T, ◌↔◌, List, length, drop, Ok, Err, Result}
+use Rattle.endless.specs.declared.refusal.Refusal.{Refusal}
+use Rattle.endless.specs.declared.refusal.Refusal.TheVariants.{Few, NoGame, NoPlace, OutFull}
 use Rattle.endless.specs.Games.{Game, Reads}
 use Rattle.endless.specs.Says.{WinsFrom, OneGame, NotBoth, EachIsWon, OneWins, RoundsAreWon, RoundsWin, OnlyAnswer, SomeHeaviest, SomeHeaviestFound, NamedAsShift, PlanWins, WinnerWins, side, goes}
 use Rattle.endless.specs.Example.{ThreePlaces}
@@ -33,19 +33,20 @@ pub record IsGamePost (s : List ℕ) (r : Bool) : Type 0 where
   pub parts : Parts
 
 -- `solve`: what each answer says
-abbrev pub SolvedSays : List ℕ → List ℕ → List ℕ → Solved → Type 0
-SolvedSays s o o' Done = (g : Game) × Reads s g × (2 * length g ≤ length o) × ((n : ℕ) → n < length g → side o' n < 2) × WinsFrom g 0 (goes o') (λ n. (n < length g) × (side o' n ≡ 0)) × WinsFrom g 1 (goes o') (λ n. (n < length g) × (side o' n ≡ 1)) × (drop (2 * length g) o' ≡ drop (2 * length g) o)
-SolvedSays s o o' OutFull = (g : Game) × Reads s g × (length o < 2 * length g) × (o' ≡ o)
-SolvedSays s o o' NoGame = ((g : Game) → Reads s g → ⊥) × (o' ≡ o)
-SolvedSays s o o' Few = o' ≡ o
+abbrev pub SolvedSays : List ℕ → List ℕ → List ℕ → Result (Unit {0}) Refusal → Type 0
+SolvedSays s o o' (Ok u) = (g : Game) × Reads s g × (2 * length g ≤ length o) × ((n : ℕ) → n < length g → side o' n < 2) × WinsFrom g 0 (goes o') (λ n. (n < length g) × (side o' n ≡ 0)) × WinsFrom g 1 (goes o') (λ n. (n < length g) × (side o' n ≡ 1)) × (drop (2 * length g) o' ≡ drop (2 * length g) o)
+SolvedSays s o o' (Err OutFull) = (g : Game) × Reads s g × (length o < 2 * length g) × (o' ≡ o)
+SolvedSays s o o' (Err NoGame) = ((g : Game) → Reads s g → ⊥) × (o' ≡ o)
+SolvedSays s o o' (Err Few) = o' ≡ o
+SolvedSays s o o' (Err NoPlace) = ⊥
 
 -- whatever plan wins for a side, from wherever, wins only places that the answer gives to that side
-abbrev pub Only : List ℕ → List ℕ → Solved → Type 0
-Only s o' r = r ≡ Done → (g : Game) (w : ℕ) (plan : ℕ → ℕ) (won : ℕ → Bool) (n : ℕ) → Reads s g → w < 2 → WinsFrom g w plan (λ m. T (won m)) → n < length g → T (won n) → side o' n ≡ w
+abbrev pub Only : List ℕ → List ℕ → Result (Unit {0}) Refusal → Type 0
+Only s o' r = r ≡ Ok tt → (g : Game) (w : ℕ) (plan : ℕ → ℕ) (won : ℕ → Bool) (n : ℕ) → Reads s g → w < 2 → WinsFrom g w plan (λ m. T (won m)) → n < length g → T (won n) → side o' n ≡ w
 
-pub record SolvedPost (s : List ℕ) (w : ℕ) (o o' : List ℕ) (r : Solved) : Type 0 where
+pub record SolvedPost (s : List ℕ) (w : ℕ) (o o' : List ℕ) (r : Result (Unit {0}) Refusal) : Type 0 where
   pub says : SolvedSays s o o' r
   pub parts : Parts
-  pub few : (w < 65536 + 4 * length s) ↔ (r ≡ Few)
+  pub few : (w < 65536 + 4 * length s) ↔ (r ≡ Err Few)
   pub only : Only s o' r
   pub further : Further

@@ -6,8 +6,6 @@ use Rattle.endless.specs.Sets.{Set, In, Out, Within, minus}
 use Rattle.endless.specs.Attractors.{Attractor, Attracting}
 use Rattle.endless.specs.Bits.{members, size, Removed}
 use Rattle.endless.specs.Graph.{sources}
-use Rattle.endless.specs.View.{Graphs}
-use Rattle.endless.specs.declared.graph.Graph.{Graph}
 
 -- on the way: L is left of U, all that may move to a place that P passed has been looked at but for ns, and the plan is made so far
 pub record Pulling (g : Game) (U : Set) (w : ℕ) (D L : Set) (P : ℕ → Type 0) (ns : List ℕ) (plan : ℕ → ℕ) : Type 0 where
@@ -43,22 +41,22 @@ pub record Working (g : Game) (U : Set) (w : ℕ) (D : Set) (left queue out : Li
   pub labelled : (n : ℕ) → In U n → Out D n → Out (members left) n → side out n ≡ w
 
 -- one place is looked at, which may move to `to`: it stays, or it comes
-pub record Stayed (v : Graph) (w from : ℕ) (left queue out left' queue' out' : List ℕ) : Type 0 where
+pub record Stayed (g : Game) (w from : ℕ) (left queue out left' queue' out' : List ℕ) : Type 0 where
   pub left_is : left' ≡ left
   pub queue_is : queue' ≡ queue
   pub out_is : out' ≡ out
-  pub why : (g : Game) → Graphs v g → from < length g → Out (members left) from ⊎ ((whose g from ≢ w) × ((m : ℕ) × May g from m × In (members left) m))
+  pub why : Out (members left) from ⊎ ((whose g from ≢ w) × ((m : ℕ) × May g from m × In (members left) m))
 
-pub record Came (v : Graph) (w from to tail : ℕ) (left queue out left' queue' out' : List ℕ) : Type 0 where
+pub record Came (g : Game) (w from to tail : ℕ) (left queue out left' queue' out' : List ℕ) : Type 0 where
   pub was : In (members left) from
   pub left_is : Removed left from left'
   pub queue_is : queue' ≡ slice_set queue tail from
   pub out_is : out' ≡ slice_set (slice_set out (2 * from) w) (2 * from + 1) to
-  pub why : (g : Game) → Graphs v g → from < length g → (whose g from ≢ w) → (m : ℕ) → May g from m → In (members left) m → ⊥
+  pub why : (whose g from ≢ w) → (m : ℕ) → May g from m → In (members left) m → ⊥
 
-abbrev pub Pulled : Graph → ℕ → ℕ → ℕ → ℕ → List ℕ → List ℕ → List ℕ → List ℕ → List ℕ → List ℕ → ℕ → Type 0
-Pulled v w from to tail left queue out left' queue' out' r =
-    ((r ≡ tail) × Stayed v w from left queue out left' queue' out') ⊎ ((r ≡ tail + 1) × Came v w from to tail left queue out left' queue' out')
+abbrev pub Pulled : Game → ℕ → ℕ → ℕ → ℕ → List ℕ → List ℕ → List ℕ → List ℕ → List ℕ → List ℕ → ℕ → Type 0
+Pulled g w from to tail left queue out left' queue' out' r =
+    ((r ≡ tail) × Stayed g w from left queue out left' queue' out') ⊎ ((r ≡ tail + 1) × Came g w from to tail left queue out left' queue' out')
 
 -- what a place's words of an answer are is unchanged
 abbrev pub Unchanged : List ℕ → List ℕ → ℕ → Type 0
@@ -74,8 +72,8 @@ pub record Moved (left queue out : List ℕ) (tail : ℕ) (left' queue' out' : L
   pub frame : (n : ℕ) → (In (members left) n → In (members left') n) → Unchanged out out' n
 
 -- all that may move to a place of the attractor has been looked at
-abbrev pub Looked : Graph → ℕ → ℕ → List ℕ → List ℕ → List ℕ → ℕ → List ℕ → List ℕ → List ℕ → ℕ → Type 0
-Looked v w to left queue out tail left' queue' out' tail' = (g : Game) (U D : Set) (head : ℕ) → Graphs v g → to < length g → In U to → Out (members left) to →
+abbrev pub Looked : Game → ℕ → ℕ → List ℕ → List ℕ → List ℕ → ℕ → List ℕ → List ℕ → List ℕ → ℕ → Type 0
+Looked g w to left queue out tail left' queue' out' tail' = (U D : Set) (head : ℕ) → In U to → Out (members left) to →
     Working g U w D left queue out head tail (sources 0 g to) → Working g U w D left' queue' out' head tail' []
 
 -- before the first: the targets D stand in the queue, and the rest of U is left

@@ -1,13 +1,10 @@
 -- A search back from a place: what its steps do.
-use Rattle.std.specs.Prelude.{◌≡◌, ℕ, ◌+◌, ◌<◌, ◌≤◌, ◌⊎◌, List, length, slice_index, slice_index_or, slice_set}
+use Rattle.std.specs.Prelude.{◌≡◌, ℕ, ◌+◌, ◌<◌, ◌≤◌, ◌⊎◌, List, slice_index, slice_index_or, slice_set}
 use Rattle.endless.specs.Games.{Game, whose, weight}
 use Rattle.endless.specs.Sets.{Set, In, Out, Within}
 use Rattle.endless.specs.Bits.{members, Removed}
-use Rattle.endless.specs.View.{Shows, Graphs}
 use Rattle.endless.specs.Pulling.{Passed}
 use Rattle.endless.specs.Flaws.{Step, Walk}
-use Rattle.endless.specs.declared.graph.Places.{Places}
-use Rattle.endless.specs.declared.graph.Graph.{Graph}
 
 -- the state of the search among the places of X for x: L is left of X, the queue is gone through up to `head` and filled up to `tail`
 pub record Tracing (g : Game) (X : Set) (w : ℕ) (plan : ℕ → ℕ) (k x : ℕ) (L : Set) (queue : List ℕ) (head tail : ℕ) : Type 0 where
@@ -20,25 +17,25 @@ pub record Tracing (g : Game) (X : Set) (w : ℕ) (plan : ℕ → ℕ) (k x : �
   pub looked : (n m : ℕ) → In L n → weight g n ≤ k → Passed queue head m → Step g w plan n m → ⊥
 
 -- one place is looked at, which may move to `to`: it stays, or it comes
-pub record Remained (v : Places) (w : ℕ) (plan : ℕ → ℕ) (k from to : ℕ) (left queue left' queue' : List ℕ) : Type 0 where
+pub record Remained (g : Game) (w : ℕ) (plan : ℕ → ℕ) (k from to : ℕ) (left queue left' queue' : List ℕ) : Type 0 where
   pub left_is : left' ≡ left
   pub queue_is : queue' ≡ queue
-  pub why : (g : Game) → Shows v g → from < length g → In (members left) from → weight g from ≤ k → (whose g from ≡ w → to ≡ plan from) → ⊥
+  pub why : In (members left) from → weight g from ≤ k → (whose g from ≡ w → to ≡ plan from) → ⊥
 
-pub record Joined (v : Places) (w : ℕ) (plan : ℕ → ℕ) (k from to tail : ℕ) (left queue left' queue' : List ℕ) : Type 0 where
+pub record Joined (g : Game) (w : ℕ) (plan : ℕ → ℕ) (k from to tail : ℕ) (left queue left' queue' : List ℕ) : Type 0 where
   pub was : In (members left) from
   pub left_is : Removed left from left'
   pub queue_is : queue' ≡ slice_set queue tail from
-  pub light : (g : Game) → Shows v g → from < length g → weight g from ≤ k
-  pub by_plan : (g : Game) → Shows v g → from < length g → whose g from ≡ w → to ≡ plan from
+  pub light : weight g from ≤ k
+  pub by_plan : whose g from ≡ w → to ≡ plan from
 
-abbrev pub Visited : Places → ℕ → (ℕ → ℕ) → ℕ → ℕ → ℕ → ℕ → List ℕ → List ℕ → List ℕ → List ℕ → ℕ → Type 0
-Visited v w plan k from to tail left queue left' queue' r =
-    ((r ≡ tail) × Remained v w plan k from to left queue left' queue') ⊎ ((r ≡ tail + 1) × Joined v w plan k from to tail left queue left' queue')
+abbrev pub Visited : Game → ℕ → (ℕ → ℕ) → ℕ → ℕ → ℕ → ℕ → List ℕ → List ℕ → List ℕ → List ℕ → ℕ → Type 0
+Visited g w plan k from to tail left queue left' queue' r =
+    ((r ≡ tail) × Remained g w plan k from to left queue left' queue') ⊎ ((r ≡ tail + 1) × Joined g w plan k from to tail left queue left' queue')
 
 -- all that may move to a place of the queue has been looked at
-abbrev pub Searched : Graph → ℕ → (ℕ → ℕ) → ℕ → ℕ → List ℕ → List ℕ → ℕ → List ℕ → List ℕ → ℕ → Type 0
-Searched v w plan k to left queue tail left' queue' tail' = (g : Game) (X : Set) (x head : ℕ) → Graphs v g → to < length g → head ≤ tail → (to ≡ x) ⊎ (In X to × Walk g X w plan k to x) →
+abbrev pub Searched : Game → ℕ → (ℕ → ℕ) → ℕ → ℕ → List ℕ → List ℕ → ℕ → List ℕ → List ℕ → ℕ → Type 0
+Searched g w plan k to left queue tail left' queue' tail' = (X : Set) (x head : ℕ) → head ≤ tail → (to ≡ x) ⊎ (In X to × Walk g X w plan k to x) →
     Tracing g X w plan k x (members left) queue head tail → Tracing g X w plan k x (members left') queue' head tail' × ((n : ℕ) → In (members left') n → weight g n ≤ k → Step g w plan n to → ⊥)
 
 -- in the end what is no longer left of X are the places from which there is a walk to x

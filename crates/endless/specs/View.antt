@@ -1,12 +1,20 @@
--- What a view of a game shows.
-use Rattle.endless.specs.Games.{Game}
-use Rattle.endless.specs.Graph.{positions, Placed, Listed}
-use Rattle.endless.specs.declared.graph.Places.{Places}
-use Rattle.endless.specs.declared.graph.Graph.{Graph}
+-- The game that words read as.
+use Rattle.std.specs.Prelude.{ℕ, zero, suc, List, [], ◌∷◌, length, take, drop}
+use Rattle.endless.specs.Games.{Place, Game, Reads, row}
 
-abbrev pub Shows : Places → Game → Type 0
-Shows p g = Placed p.words.now g (positions p.low.now p.high.now)
+-- so many places, read from words one after another
+unfoldable pub places_in : ℕ → List ℕ → List Place
+places_in zero s = []
+places_in (suc n) [] = []
+places_in (suc n) (w ∷ []) = []
+places_in (suc n) (w ∷ k ∷ []) = []
+places_in (suc n) (w ∷ k ∷ m ∷ s) = record { whose = w; weight = k; moves = take m s } ∷ places_in n (drop m s)
 
-pub record Graphs (v : Graph) (g : Game) : Type 0 where
-  pub shows : Shows v.places g
-  pub lists : Listed g (positions v.low.now v.high.now) v.preds.now
+-- the game that words are; no matter what, where they are none
+unfoldable pub game_in : List ℕ → Game
+game_in [] = []
+game_in (n ∷ s) = places_in n s
+
+-- some words read as the game
+abbrev pub Playable : Game → Type 0
+Playable g = Reads (length g ∷ row g) g

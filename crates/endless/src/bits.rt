@@ -1,5 +1,6 @@
 //! Sets of places as bits of lent words: place `i` is bit `i % 32` of word `i / 32`.
 ghost use Rattle.std.specs.Prelude.{◌≡◌, ℕ, ◌+◌, ◌-◌, ◌*◌, ◌/◌, ◌^◌, ◌<◌, ◌≤◌, true, false, length, MatchOption, ◌==◌, nat_lt};
+ghost use Rattle.std.specs.Iterator.{at_most};
 ghost use Rattle.endless.specs.Bits.{digit, members, size, Inserted, Removed, Least, NoneFrom};
 
 /// Whether `i` is in the set.
@@ -31,11 +32,7 @@ pub fn count(set: &[u32]) -> u32
     requires { 32 * length set.now < 2 ^ 32 }
     ensures { result ≡ size set.now }
 {
-    let mut members = 0;
-    for word in set {
-        members += word.count_ones();
-    }
-    members
+    set.iter().map(|word| word.count_ones()).sum()
 }
 
 /// Makes `to` the set that `from` is.
@@ -57,12 +54,7 @@ pub fn clear(set: &mut [u32])
 pub fn is_empty(set: &[u32]) -> bool
     ensures { result ≡ (size set.now == 0) }
 {
-    for word in set {
-        if *word != 0 {
-            return false;
-        }
-    }
-    true
+    set.iter().all(|word| *word == 0)
 }
 
 /// The word whose `k` lowest bits are set.
@@ -106,11 +98,43 @@ pub fn next(set: &[u32], from: u32) -> Option<u32>
     ensures { MatchOption result (NoneFrom (members set.now) from) (λ m. Least (members set.now) from m) }
 {
     let mut start = from % 32;
-    for k in (from / 32) as usize..set.len() {
-        if let Some(bit) = lowest(set[k], start) {
+    for (k, word) in set.iter().enumerate().skip((from / 32) as usize) {
+        if let Some(bit) = lowest(*word, start) {
             return Some(32 * k as u32 + bit);
         }
         start = 0;
     }
     None
+}
+
+/// The members of a set, the least first.
+#[derive(Clone, Copy)]
+pub struct Members<'a> {
+    set: &'a [u32],
+    from: u32,
+}
+
+/// Goes through the members of the set, the least first.
+pub fn iter(set: &[u32]) -> Members<'_>
+    requires { 32 * length set.now < 2 ^ 32 }
+    ensures set { result.set.now ≡ set.now }
+    ensures from { result.from ≡ 0 }
+{
+    Members { set, from: 0 }
+}
+
+impl<'a> Iterator for Members<'a> {
+    type Item = u32;
+
+    ghost can_next = { λ s. 32 * length s.set.now < 2 ^ 32 };
+
+    ghost next_gives = { λ s r t. (t.set.now ≡ s.set.now) × MatchOption r (NoneFrom (members s.set.now) s.from) (λ m. Least (members s.set.now) s.from m × (t.from ≡ m + 1)) };
+
+    ghost remaining = { λ s. at_most (32 * length s.set.now - s.from) };
+
+    fn next(&mut self) -> Option<u32> {
+        let place = next(self.set, self.from)?;
+        self.from = place + 1;
+        Some(place)
+    }
 }

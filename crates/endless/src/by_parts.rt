@@ -1,15 +1,15 @@
 //! The recursion over weights by closed parts: who wins each place of a subgame, and with which moves.
 ghost use Rattle.std.specs.Prelude.{◌≡◌, ℕ, ◌+◌, ◌*◌, ◌%◌, ◌^◌, ◌<◌, ◌≤◌, length, slice_index};
-ghost use Rattle.endless.specs.Games.{Game, other};
+ghost use Rattle.endless.specs.Games.{other};
 ghost use Rattle.endless.specs.Says.{side, goes};
 ghost use Rattle.endless.specs.Sets.{Set, In, Out, Within};
 ghost use Rattle.endless.specs.Subgames.{Subgame, Closed, Solves};
 ghost use Rattle.endless.specs.Sides.{number};
 ghost use Rattle.endless.specs.Bits.{members, size};
-ghost use Rattle.endless.specs.View.{Graphs};
 ghost use Rattle.endless.specs.Pulling.{Unchanged, Sized};
 ghost use Rattle.endless.specs.Levels.{HeaviestIn, Brought, Peeled, Peels, Room};
 ghost use Rattle.endless.specs.Parts.{Covers, Part};
+ghost use Rattle.endless.specs.View.{Playable};
 
 use crate::attractor::attract_counted;
 use crate::bits;
@@ -39,7 +39,7 @@ fn part_size(list: &[u32], many: usize) -> usize
 /// side; `left`, at first the part, becomes the rest. The heaviest weight, and
 /// how many places are left. `own` has `many`.
 fn bring_about_part(
-    graph: Graph,
+    graph: &Graph,
     many: usize,
     own: &[u32],
     list: &[u32],
@@ -48,20 +48,21 @@ fn bring_about_part(
     queue: &mut [u32],
     escapes: &mut [u32],
 ) -> (u32, usize)
-    requires game { (g : Game) × Graphs graph g × ((n : ℕ) → In (members own.now) n → n < length g) × Sized g own.now out.old escapes.old }
+    requires inside { (n : ℕ) → In (members own.now) n → n < length graph.now }
+    requires sized { Sized graph.now own.now out.old escapes.old }
     requires part { Part own.now list.now (members left.old) }
-    requires sized { (length list.now ≡ 0 → many ≡ size left.old) × (0 < length list.now → length list.now ≡ size left.old) }
+    requires counted { (length list.now ≡ 0 → many ≡ size left.old) × (0 < length list.now → length list.now ≡ size left.old) }
     requires same { length left.old ≡ length own.now }
     requires room { size own.now ≤ length queue.old }
     requires small { 32 * length own.now < 2 ^ 32 }
-    ensures heaviest { (g : Game) → Graphs graph.entry g → 0 < size left.old → HeaviestIn g (members left.old) result.0 }
+    ensures heaviest { 0 < size left.old → HeaviestIn graph.now (members left.old) result.0 }
     ensures rest { result.1 ≡ size left.new }
     ensures frame { (n : ℕ) → Out (members left.old) n → Unchanged out.old out.new n }
-    ensures brought { (g : Game) → Graphs graph.entry g → Subgame g (members own.now) → Closed g (members own.now) (members left.old) → Brought g (members left.old) (result.0 % 2) result.0 (members left.new) out.new }
+    ensures brought { Subgame graph.now (members own.now) → Closed graph.now (members own.now) (members left.old) → Brought graph.now (members left.old) (result.0 % 2) result.0 (members left.new) out.new }
 {
-    let weight = heaviest_in(graph.places, list, left);
+    let weight = heaviest_in(graph, list, left);
     let side = Side::of_weight(weight);
-    let targets = gather_targets(graph.places, side, weight, list, own, left, out, queue);
+    let targets = gather_targets(graph, side, weight, list, own, left, out, queue);
     let all = part_size(list, many);
     let taken = attract_counted(graph, side, left, out, queue, escapes, targets, all);
     (weight, all - taken)
@@ -71,7 +72,7 @@ fn bring_about_part(
 /// can be brought about, and gives these to that side. `own` has `many` places;
 /// how many are left.
 fn peel_won(
-    graph: Graph,
+    graph: &Graph,
     winner: Side,
     many: usize,
     list: &[u32],
@@ -80,7 +81,8 @@ fn peel_won(
     queue: &mut [u32],
     escapes: &mut [u32],
 ) -> usize
-    requires game { (g : Game) × Graphs graph g × ((n : ℕ) → In (members own.old) n → n < length g) × Sized g own.old out.old escapes.old }
+    requires inside { (n : ℕ) → In (members own.old) n → n < length graph.now }
+    requires sized { Sized graph.now own.old out.old escapes.old }
     requires part { (R : Set) × Part own.old list.now R }
     requires counted { many ≡ size own.old }
     requires room { size own.old ≤ length queue.old }
@@ -89,7 +91,7 @@ fn peel_won(
     ensures falls { 0 < size own.old → size own.new < size own.old }
     ensures less { Within (members own.new) (members own.old) }
     ensures frame { (n : ℕ) → Out (members own.old) n → Unchanged out.old out.new n }
-    ensures peeled { (g : Game) (R : Set) → Graphs graph.entry g → Subgame g (members own.old) → Part own.old list.now R → Peeled g (members own.old) (number winner) R (members own.new) out.old out.new }
+    ensures peeled { (R : Set) → Subgame graph.now (members own.old) → Part own.old list.now R → Peeled graph.now (members own.old) (number winner) R (members own.new) out.old out.new }
 {
     if list.len() == 0 {
         bits::clear(own);
@@ -106,7 +108,7 @@ fn peel_won(
 /// it too; or all of the part, with the same for `winner`, where the answer
 /// gives the other none. `own` has `many` places; how many are left.
 fn peel_part(
-    graph: Graph,
+    graph: &Graph,
     winner: Side,
     many: usize,
     list: &[u32],
@@ -115,7 +117,8 @@ fn peel_part(
     queue: &mut [u32],
     escapes: &mut [u32],
 ) -> usize
-    requires game { (g : Game) × Graphs graph g × ((n : ℕ) → In (members own.old) n → n < length g) × Sized g own.old out.old escapes.old }
+    requires inside { (n : ℕ) → In (members own.old) n → n < length graph.now }
+    requires sized { Sized graph.now own.old out.old escapes.old }
     requires part { (R : Set) × Part own.old list.now R }
     requires counted { many ≡ size own.old }
     requires room { size own.old ≤ length queue.old }
@@ -124,7 +127,7 @@ fn peel_part(
     ensures falls { 0 < size own.old → size own.new < size own.old }
     ensures less { Within (members own.new) (members own.old) }
     ensures frame { (n : ℕ) → Out (members own.old) n → Unchanged out.old out.new n }
-    ensures peels { (g : Game) (R : Set) → Graphs graph.entry g → Subgame g (members own.old) → Part own.old list.now R → Peels g (members own.old) R (number winner) (other (number winner)) (members own.new) out.old out.new }
+    ensures peels { (R : Set) → Subgame graph.now (members own.old) → Part own.old list.now R → Peels graph.now (members own.old) R (number winner) (other (number winner)) (members own.new) out.old out.new }
 {
     let loser = winner.other();
     let lost = gather_lost(loser, list, own, out, queue);
@@ -143,7 +146,7 @@ fn peel_part(
 /// is short there are none. `effort` tells when it is worth while to look for
 /// a smaller part.
 pub fn level_by_parts(
-    graph: Graph,
+    graph: &Graph,
     bound: u32,
     many: usize,
     own: &mut [u32],
@@ -155,29 +158,23 @@ pub fn level_by_parts(
     escapes: &mut [u32],
     effort: &mut Effort,
 )
-    requires room { (g : Game) × Graphs graph g × Room g bound own.old rest.old out.old queue.old escapes.old }
+    requires room { Room graph.now bound own.old rest.old out.old queue.old escapes.old }
     requires counted { many ≡ size own.old }
     requires covers { Covers own.old within.now }
     requires inside { (j : ℕ) → j < length within.now → slice_index within.now j < 32 * length own.old }
+    requires playable { Playable graph.now }
     ensures frame { (n : ℕ) → Out (members own.old) n → Unchanged out.old out.new n }
-    ensures solves { (g : Game) → Graphs graph.entry g → Subgame g (members own.old) → Solves g (members own.old) (side out.new) (goes out.new) }
+    ensures solves { Subgame graph.now (members own.old) → Solves graph.now (members own.old) (side out.new) (goes out.new) }
 {
     let mut order = Order::new();
     let mut remaining = many;
     while remaining > 0 {
         let start = find_start(
-            graph.places,
-            own,
-            remaining,
-            spare,
-            queue,
-            escapes,
-            &mut order,
-            effort,
+            graph, own, remaining, spare, queue, escapes, &mut order, effort,
         );
         let (_, free) = spare.split_at_mut(order.kept.min(spare.len()));
         let (left, deeper) = rest.split_at_mut(own.len());
-        let count = take_part(graph.places, start, within, free.len(), own, left, queue);
+        let count = take_part(graph, start, within, free.len(), own, left, queue);
         let (list, beyond) = free.split_at_mut(count);
         save(queue, list);
         let (weight, below) = bring_about_part(

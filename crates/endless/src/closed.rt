@@ -1,14 +1,12 @@
 //! A closed part of a subgame: the places that can be come to from one of them.
 ghost use Rattle.std.specs.Prelude.{◌≡◌, ℕ, ◌*◌, ◌<◌, ◌≤◌, length, slice_index};
-ghost use Rattle.endless.specs.Games.{Game};
 ghost use Rattle.endless.specs.Sets.{In, Within};
 ghost use Rattle.endless.specs.Subgames.{Closed};
 ghost use Rattle.endless.specs.Bits.{members, size};
-ghost use Rattle.endless.specs.View.{Shows};
 ghost use Rattle.endless.specs.Parts.{Listing, Spread, Covers, PartTaken};
 
 use crate::bits;
-use crate::graph::Places;
+use crate::graph::Graph;
 
 /// Takes a place into the part, and to the end of the queue, where it is in
 /// the set and not there yet. The number of places in the queue then.
@@ -55,15 +53,16 @@ fn spread_over(
 
 /// Makes `part` all places of the set that can be come to from `start` within
 /// it, and lists them in the queue. How many there are.
-pub fn reach(places: Places, start: u32, set: &[u32], part: &mut [u32], queue: &mut [u32]) -> usize
-    requires game { (g : Game) × Shows places g × (length g ≤ 32 * length set.now) × ((n : ℕ) → In (members set.now) n → n < length g) }
+pub fn reach(graph: &Graph, start: u32, set: &[u32], part: &mut [u32], queue: &mut [u32]) -> usize
+    requires sets { length graph.now ≤ 32 * length set.now }
+    requires places { (n : ℕ) → In (members set.now) n → n < length graph.now }
     requires first { In (members set.now) start }
     requires same { length part.old ≡ length set.now }
     requires room { size set.now ≤ length queue.old }
     ensures lists { Listing set.now part.new queue.new result }
     ensures few { result ≤ size set.now }
     ensures holds { In (members part.new) start }
-    ensures closed { (g : Game) → Shows places.entry g → Closed g (members set.now) (members part.new) }
+    ensures closed { Closed graph.now (members set.now) (members part.new) }
 {
     bits::clear(part);
     let mut head = 0;
@@ -71,7 +70,7 @@ pub fn reach(places: Places, start: u32, set: &[u32], part: &mut [u32], queue: &
     while head < tail {
         let from = queue[head];
         head += 1;
-        tail = spread_over(places.moves(from), set, part, queue, tail);
+        tail = spread_over(graph.moves(from), set, part, queue, tail);
     }
     tail
 }
@@ -80,21 +79,22 @@ pub fn reach(places: Places, start: u32, set: &[u32], part: &mut [u32], queue: &
 /// it is there and as many places have room; then these stand in the queue,
 /// and their number is told. Else all of the set, and 0.
 fn part_from(
-    places: Places,
+    graph: &Graph,
     start: u32,
     room: usize,
     set: &[u32],
     part: &mut [u32],
     queue: &mut [u32],
 ) -> usize
-    requires game { (g : Game) × Shows places g × (length g ≤ 32 * length set.now) × ((n : ℕ) → In (members set.now) n → n < length g) }
+    requires sets { length graph.now ≤ 32 * length set.now }
+    requires places { (n : ℕ) → In (members set.now) n → n < length graph.now }
     requires same { length part.old ≡ length set.now }
     requires queues { size set.now ≤ length queue.old }
     ensures fits { result ≤ room }
-    ensures taken { PartTaken places.entry set.now part.new queue.new result }
+    ensures taken { PartTaken graph.now set.now part.new queue.new result }
 {
-    if start < places.len() && bits::has(set, start) {
-        let count = reach(places, start, set, part, queue);
+    if start < graph.len() && bits::has(set, start) {
+        let count = reach(graph, start, set, part, queue);
         if count <= room {
             return count;
         }
@@ -120,20 +120,19 @@ fn list_all(within: &[u32], set: &[u32], part: &mut [u32], queue: &mut [u32]) ->
 /// which is short beside the room, they stand in the queue, and their number
 /// is told. Else 0.
 fn part_within(
-    places: Places,
+    graph: &Graph,
     within: &[u32],
     room: usize,
     set: &[u32],
     part: &mut [u32],
     queue: &mut [u32],
 ) -> usize
-    requires game { (g : Game) × Shows places g }
     requires covers { Covers set.now within.now }
     requires inside { (j : ℕ) → j < length within.now → slice_index within.now j < 32 * length set.now }
     requires same { length part.old ≡ length set.now }
     requires queues { size set.now ≤ length queue.old }
     ensures fits { result ≤ room }
-    ensures taken { PartTaken places.entry set.now part.new queue.new result }
+    ensures taken { PartTaken graph.now set.now part.new queue.new result }
 {
     if within.len() > 0 && within.len() <= room / 8 {
         let count = list_all(within, set, part, queue);
@@ -149,7 +148,7 @@ fn part_within(
 /// there is one, else all of it. Their number, if they stand in the queue, and
 /// else 0: then the part is all of the set.
 pub fn take_part(
-    places: Places,
+    graph: &Graph,
     start: Option<u32>,
     within: &[u32],
     room: usize,
@@ -157,16 +156,17 @@ pub fn take_part(
     part: &mut [u32],
     queue: &mut [u32],
 ) -> usize
-    requires game { (g : Game) × Shows places g × (length g ≤ 32 * length set.now) × ((n : ℕ) → In (members set.now) n → n < length g) }
+    requires sets { length graph.now ≤ 32 * length set.now }
+    requires places { (n : ℕ) → In (members set.now) n → n < length graph.now }
     requires covers { Covers set.now within.now }
     requires inside { (j : ℕ) → j < length within.now → slice_index within.now j < 32 * length set.now }
     requires same { length part.old ≡ length set.now }
     requires queues { size set.now ≤ length queue.old }
     ensures fits { result ≤ room }
-    ensures taken { PartTaken places.entry set.now part.new queue.new result }
+    ensures taken { PartTaken graph.now set.now part.new queue.new result }
 {
     match start {
-        Some(start) => part_from(places, start, room, set, part, queue),
-        None => part_within(places, within, room, set, part, queue),
+        Some(start) => part_from(graph, start, room, set, part, queue),
+        None => part_within(graph, within, room, set, part, queue),
     }
 }

@@ -1,205 +1,189 @@
-//! A search that proposes ranks: the numbers of strongly connected parts, in
-//! the order in which they are left (Tarjan 1972). Nothing is proved of what
-//! it finds; the ranks are looked at before they are believed.
-ghost use Rattle.std.specs.Prelude.{ℕ, ◌*◌, ◌<◌, ◌≤◌, length};
-ghost use Rattle.endless.specs.Games.{Game};
-ghost use Rattle.endless.specs.View.{Shows};
+//! The strongly connected components of a part of a game, each behind those
+//! that it can move to (Tarjan 1972).
+//!
+//! Nothing is proved of what is found. It is looked at before it is believed,
+//! or serves where any choice is safe.
 
-use crate::graph::Places;
-use crate::ranks::is_light;
-use crate::side::Side;
+/// What a walk goes through, and what becomes of the components that it finds.
+pub(crate) trait View {
+    /// Whether the walk may come to this place.
+    fn has(&self, place: u32) -> bool;
 
-/// A walk through the places, each move once. All that it keeps stands in
-/// lent words.
-#[derive(Drop)]
-struct Walk<'a> {
-    /// The how-many-th each place was that the walk met; 0 if not yet.
-    order: &'a mut [u32],
-    /// The least order of an open place that is known to be reached.
-    low: &'a mut [u32],
-    /// The number of each place's part; 0 if not yet known.
-    part: &'a mut [u32],
-    /// The places that were met and have no part yet.
-    open: &'a mut [u32],
-    /// The way from the start to where the walk stands, and at each place of
-    /// it the index of the next move.
-    path: &'a mut [u32],
-    next: &'a mut [u32],
-    opened: usize,
-    depth: usize,
-    met: u32,
-    closed: u32,
+    /// Where it may go from this place, if it may come there.
+    fn moves(&self, place: u32) -> &[u32];
+
+    /// This place belongs to the component with this number, counted from 1.
+    fn put(&mut self, place: u32, component: u32);
 }
 
-/// The word at an index; 0 past the end.
-fn number(words: &[u32], i: usize) -> u32 {
-    if i < words.len() { words[i] } else { 0 }
+/// The word at `i`, or 0 past the end.
+pub(crate) fn word(words: &[u32], i: usize) -> u32 {
+    words.get(i).copied().unwrap_or(0)
 }
 
-/// Writes a word at an index, if there is one.
-fn put(words: &mut [u32], i: usize, word: u32) {
+/// Writes a word at `i`, if there is room.
+pub(crate) fn write(words: &mut [u32], i: usize, word: u32) {
     if i < words.len() {
         words[i] = word;
     }
 }
 
-impl Walk<'_> {
-    /// Comes to a place for the first time.
-    fn meet(&mut self, place: u32) {
-        let (met, opened, depth) = (self.met.saturating_add(1), self.opened, self.depth);
-        put(self.order, place as usize, met);
-        put(self.low, place as usize, met);
-        put(self.open, opened, place);
-        put(self.path, depth, place);
-        put(self.next, depth, 0);
-        self.met = met;
-        self.opened = opened.saturating_add(1);
-        self.depth = depth.saturating_add(1);
+/// Whether a place is in the set.
+pub(crate) fn is_in(set: &[u32], place: u32) -> bool {
+    (word(set, (place / 32) as usize) >> (place % 32)) & 1 == 1
+}
+
+/// The number of a place whose component is known.
+const DONE: u32 = u32::MAX;
+
+/// A walk through places, each move once. What it keeps of each place stands
+/// in lent words.
+#[derive(Drop)]
+pub(crate) struct Walk<'a> {
+    /// The how-many-th each place was that the walk met, 0 if not yet: odd
+    /// until a place met before it was seen again, and then the least such.
+    numbers: &'a mut [u32],
+    /// How many of each place's moves were looked along.
+    cursors: &'a mut [u32],
+    /// From the front the path to where the walk stands, and from the back the
+    /// places that were left behind and have no component yet.
+    queue: &'a mut [u32],
+    path: usize,
+    open: usize,
+    number: u32,
+    components: u32,
+    /// How many places the greatest component has.
+    greatest: usize,
+}
+
+impl<'a> Walk<'a> {
+    /// A walk that has met no place: `numbers` has 0 at each that it will go
+    /// through.
+    pub(crate) fn new(
+        numbers: &'a mut [u32],
+        cursors: &'a mut [u32],
+        queue: &'a mut [u32],
+    ) -> Walk<'a> {
+        Walk {
+            numbers,
+            cursors,
+            queue,
+            path: 0,
+            open: 0,
+            number: 1,
+            components: 0,
+            greatest: 0,
+        }
     }
 
-    /// Notes that an open place of this order is reached from `place`.
-    fn lower(&mut self, place: u32, order: u32) {
-        let low = number(self.low, place as usize);
-        put(self.low, place as usize, low.min(order));
+    /// How many places the greatest component has that was found.
+    pub(crate) fn greatest(&self) -> usize {
+        self.greatest
     }
 
-    /// Looks along a move.
-    fn look(&mut self, from: u32, to: u32) {
-        let order = number(self.order, to as usize);
-        if order == 0 {
-            self.meet(to);
+    /// Walks through all that can be come to from a place, if it was not met
+    /// yet.
+    pub(crate) fn go_from<V: View>(&mut self, view: &mut V, place: u32) {
+        if word(self.numbers, place as usize) != 0 {
             return;
         }
-        if number(self.part, to as usize) == 0 {
-            self.lower(from, order);
-        }
-    }
-
-    /// Makes a part of the open places that were met from `place` on.
-    fn close(&mut self, place: u32) {
-        let closed = self.closed.saturating_add(1);
-        self.closed = closed;
-        for at in (0..self.opened).rev() {
-            let member = number(self.open, at);
-            put(self.part, member as usize, closed);
-            self.opened = at;
-            if member == place {
-                break;
+        self.enter(place);
+        for _ in 0..u64::MAX {
+            if self.path == 0 {
+                return;
             }
+            self.step(view);
         }
     }
 
-    /// Goes back from a place all of whose moves were looked along.
-    fn leave(&mut self, place: u32) {
-        let low = number(self.low, place as usize);
-        if low == number(self.order, place as usize) {
-            self.close(place);
-        }
-        let depth = self.depth.saturating_sub(1);
-        self.depth = depth;
-        if depth > 0 {
-            let before = number(self.path, depth - 1);
-            self.lower(before, low);
+    /// Comes to a place for the first time.
+    fn enter(&mut self, place: u32) {
+        let (number, path) = (self.number.wrapping_add(2), self.path);
+        write(self.numbers, place as usize, number);
+        write(self.cursors, place as usize, 0);
+        write(self.queue, path, place);
+        self.number = number;
+        self.path = path.saturating_add(1);
+    }
+
+    /// One step from the last place of the path: on to the next, or back.
+    fn step<V: View>(&mut self, view: &mut V) {
+        let last = self.path.saturating_sub(1);
+        let place = word(self.queue, last);
+        let from = word(self.cursors, place as usize);
+        let met = word(self.numbers, place as usize);
+        let (next, number) = self.look(view, place, from, met);
+        write(self.numbers, place as usize, number);
+        match next {
+            Some((to, cursor)) => {
+                write(self.cursors, place as usize, cursor);
+                self.enter(to);
+            }
+            None => self.leave(view, place, number),
         }
     }
 
-    /// The place at which the walk stands, and the index of the next move to
-    /// look along there, which is the one after it from now on.
-    fn step(&mut self) -> Option<(u32, u32)> {
-        if self.depth == 0 {
-            return None;
-        }
-        let at = self.depth - 1;
-        let next = number(self.next, at);
-        put(self.next, at, next.saturating_add(1));
-        Some((number(self.path, at), next))
-    }
-}
-
-/// The move of this index that the plan allows from a place.
-fn nth_allowed(places: Places, side: Side, answer: &[u32], place: u32, i: u32) -> Option<u32>
-    requires { (g : Game) × Shows places g }
-{
-    if place >= places.len() {
-        return None;
-    }
-    if places.head(place).whose != side.to_word() {
-        return places.moves(place).get(i as usize).copied();
-    }
-    if i > 0 {
-        return None;
-    }
-    answer.get(2 * place as usize + 1).copied()
-}
-
-/// Walks from `start` to all that can be reached and was not yet met.
-fn walk_from(
-    places: Places,
-    side: Side,
-    answer: &[u32],
-    heaviest: u32,
-    set: &[u32],
-    walk: &mut Walk,
-    start: u32,
-)
-    requires { (g : Game) × Shows places g × (length g ≤ 32 * length set.now) }
-{
-    walk.meet(start);
-    for _ in 0..u64::MAX {
-        let Some((place, i)) = walk.step() else {
-            break;
-        };
-        match nth_allowed(places, side, answer, place, i) {
-            Some(to) => {
-                if is_light(places, set, heaviest, to) {
-                    walk.look(place, to);
+    /// Goes through a place's moves from the cursor up to one that leads to a
+    /// place not met yet, and tells where it leads and the cursor there, and
+    /// the least number met.
+    fn look<V: View>(
+        &self,
+        view: &V,
+        place: u32,
+        from: u32,
+        number: u32,
+    ) -> (Option<(u32, u32)>, u32) {
+        let mut least = number;
+        let mut cursor = from;
+        for to in view.moves(place).iter().skip(from as usize) {
+            if view.has(*to) {
+                let met = word(self.numbers, *to as usize);
+                if met == 0 {
+                    return (Some((*to, cursor)), least);
+                }
+                if met / 2 < least / 2 {
+                    least = met / 2 * 2;
                 }
             }
-            None => walk.leave(place),
+            cursor = cursor.saturating_add(1);
         }
+        (None, least)
     }
-}
 
-/// Proposes a rank for each place of the set that is not heavier than
-/// `heaviest`; `lent` is for what the walk keeps.
-pub(crate) fn propose(
-    places: Places,
-    side: Side,
-    answer: &[u32],
-    heaviest: u32,
-    set: &[u32],
-    ranks: &mut [u32],
-    lent: &mut [u32],
-)
-    requires { (g : Game) × Shows places g × (length g ≤ 32 * length set.now) }
-{
-    let count = places.len() as usize;
-    if lent.len() < 5 * count {
-        return;
-    }
-    let (order, lent) = lent.split_at_mut(count);
-    let (low, lent) = lent.split_at_mut(count);
-    let (open, lent) = lent.split_at_mut(count);
-    let (path, next) = lent.split_at_mut(count);
-    order.fill(0);
-    ranks.fill(0);
-    let mut walk = Walk {
-        order,
-        low,
-        part: ranks,
-        open,
-        path,
-        next,
-        opened: 0,
-        depth: 0,
-        met: 0,
-        closed: 0,
-    };
-    for start in 0..places.len() {
-        if is_light(places, set, heaviest, start) {
-            if number(walk.order, start as usize) == 0 {
-                walk_from(places, side, answer, heaviest, set, &mut walk, start);
-            }
+    /// Leaves a place: it is left behind, or it closes a component.
+    fn leave<V: View>(&mut self, view: &mut V, place: u32, number: u32) {
+        self.path = self.path.saturating_sub(1);
+        if number % 2 == 0 {
+            self.open = self.open.saturating_add(1);
+            let at = self.queue.len().saturating_sub(self.open);
+            write(self.queue, at, place);
+            return;
         }
+        self.components = self.components.saturating_add(1);
+        let open = self.open;
+        self.close(view, number);
+        self.put(view, place);
+        let size = open.saturating_sub(self.open).saturating_add(1);
+        self.greatest = self.greatest.max(size);
+    }
+
+    /// The places that were left behind since `number` belong to the component
+    /// that is being closed.
+    fn close<V: View>(&mut self, view: &mut V, number: u32) {
+        for _ in 0..self.queue.len() {
+            let at = self.queue.len().saturating_sub(self.open);
+            let place = word(self.queue, at);
+            if self.open == 0 || word(self.numbers, place as usize) / 2 < number / 2 {
+                return;
+            }
+            self.open = self.open.saturating_sub(1);
+            self.put(view, place);
+        }
+    }
+
+    /// This place belongs to the component that is being closed.
+    fn put<V: View>(&mut self, view: &mut V, place: u32) {
+        write(self.numbers, place as usize, DONE);
+        view.put(place, self.components);
     }
 }

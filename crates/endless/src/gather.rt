@@ -1,42 +1,39 @@
 //! Places of a set, gathered into the queue: the heaviest, and those that a side has won.
 ghost use Rattle.std.specs.Prelude.{◌≡◌, ℕ, ◌+◌, ◌*◌, ◌^◌, ◌<◌, ◌≤◌, length, ◌==◌, slice_index};
-ghost use Rattle.endless.specs.Games.{Game};
 ghost use Rattle.endless.specs.Says.{side};
 ghost use Rattle.endless.specs.Sets.{Set, In, Out, Within, having};
 ghost use Rattle.endless.specs.Sides.{number};
 ghost use Rattle.endless.specs.Bits.{members, size};
-ghost use Rattle.endless.specs.View.{Shows};
 ghost use Rattle.endless.specs.Pulling.{Unchanged, Starts};
-ghost use Rattle.endless.specs.Levels.{HeaviestIn, HeaviestOf, Gathered, GatheredIn, Given, Taken, TakenIf, Stays};
+ghost use Rattle.endless.specs.Levels.{HeaviestIn, HeaviestOf, GatheredIn, Given, Taken, TakenIf, Stays};
 ghost use Rattle.endless.specs.Parts.{Told, Part, PickedIf, wanted, mark};
 
 use crate::attractor::first_into;
 use crate::bits;
-use crate::graph::Places;
+use crate::graph::Graph;
 use crate::side::Side;
 
 /// The heaviest weight of the places of a set.
-pub(crate) fn heaviest(places: Places, set: &[u32]) -> u32
-    requires game { (g : Game) × Shows places g × ((n : ℕ) → In (members set.now) n → n < length g) }
+pub(crate) fn heaviest(graph: &Graph, set: &[u32]) -> u32
+    requires inside { (n : ℕ) → In (members set.now) n → n < length graph.now }
     requires small { 32 * length set.now < 2 ^ 32 }
-    ensures { (g : Game) → Shows places.entry g → 0 < size set.now → HeaviestIn g (members set.now) result }
+    ensures { 0 < size set.now → HeaviestIn graph.now (members set.now) result }
 {
     let mut heaviest: u32 = 0;
-    let mut from = 0;
-    while let Some(place) = bits::next(set, from) {
-        heaviest = heaviest.max(places.head(place).weight);
-        from = place + 1;
+    for place in bits::iter(set) {
+        heaviest = heaviest.max(graph.head(place).weight);
     }
     heaviest
 }
 
 /// A move of a place that stays in the set, where it has one.
-fn move_within(places: Places, place: u32, set: &[u32]) -> u32
-    requires { (g : Game) × Shows places g × (place < length g) × (length g ≤ 32 * length set.now) }
-    ensures { (g : Game) → Shows places.entry g → place < length g → Stays g (members set.now) place result }
+fn move_within(graph: &Graph, place: u32, set: &[u32]) -> u32
+    requires place { place < length graph.now }
+    requires sets { length graph.now ≤ 32 * length set.now }
+    ensures { Stays graph.now (members set.now) place result }
 {
-    let moves = places.moves(place);
-    match first_into(moves, set, 0, moves.len()) {
+    let moves = graph.moves(place);
+    match first_into(moves, set) {
         Some(k) => moves[k],
         None => place,
     }
@@ -44,18 +41,20 @@ fn move_within(places: Places, place: u32, set: &[u32]) -> u32
 
 /// Gives a place to `side`, with a move of it that stays in the set, where it
 /// has one.
-pub(crate) fn give(places: Places, side: Side, place: u32, set: &[u32], out: &mut [u32])
-    requires { (g : Game) × Shows places g × (place < length g) × (2 * length g ≤ length out.old) × (length g ≤ 32 * length set.now) }
-    ensures { Given places.entry (number side) place (members set.now) out.old out.new }
+pub(crate) fn give(graph: &Graph, side: Side, place: u32, set: &[u32], out: &mut [u32])
+    requires place { place < length graph.now }
+    requires answers { 2 * length graph.now ≤ length out.old }
+    requires sets { length graph.now ≤ 32 * length set.now }
+    ensures { Given graph.now (number side) place (members set.now) out.old out.new }
 {
     out[2 * place as usize] = side.to_word();
-    out[2 * place as usize + 1] = move_within(places, place, set);
+    out[2 * place as usize + 1] = move_within(graph, place, set);
 }
 
 /// Takes a place from what is left into the queue, and gives it to `side`
 /// with a move of it that stays in `own`.
 fn take_place(
-    places: Places,
+    graph: &Graph,
     side: Side,
     place: u32,
     own: &[u32],
@@ -64,43 +63,22 @@ fn take_place(
     queue: &mut [u32],
     count: usize,
 )
-    requires game { (g : Game) × Shows places g × (place < length g) × (2 * length g ≤ length out.old) × (length g ≤ 32 * length own.now) }
+    requires place { place < length graph.now }
+    requires answers { 2 * length graph.now ≤ length out.old }
+    requires sets { length graph.now ≤ 32 * length own.now }
     requires same { length left.old ≡ length own.now }
     requires room { count < length queue.old }
-    ensures { Taken places.entry (number side) place (members own.now) count left.old queue.old out.old left.new queue.new out.new }
+    ensures { Taken graph.now (number side) place (members own.now) count left.old queue.old out.old left.new queue.new out.new }
 {
     bits::remove(left, place);
-    give(places, side, place, own, out);
+    give(graph, side, place, own, out);
     queue[count] = place;
-}
-
-/// Puts the places of a weight into the queue, each given to `side` with a
-/// move of it that stays in `own`; `left` becomes the others.
-pub(crate) fn gather_heaviest(
-    places: Places,
-    side: Side,
-    heaviest: u32,
-    own: &[u32],
-    left: &mut [u32],
-    out: &mut [u32],
-    queue: &mut [u32],
-) -> usize
-    requires game { (g : Game) × Shows places g × ((n : ℕ) → In (members own.now) n → n < length g) × (2 * length g ≤ length out.old) × (length g ≤ 32 * length own.now) }
-    requires same { length left.old ≡ length own.now }
-    requires room { size own.now ≤ length queue.old }
-    requires small { 32 * length own.now < 2 ^ 32 }
-    ensures counts { result + size left.new ≡ size own.now }
-    ensures frame { (n : ℕ) → Out (members own.now) n → Unchanged out.old out.new n }
-    ensures gathered { (g : Game) → Shows places.entry g → Gathered g (members own.now) (number side) heaviest left.new queue.new out.new result }
-{
-    bits::copy(own, left);
-    gather_heaviest_in(places, side, heaviest, own, left, out, queue)
 }
 
 /// Puts the places of a weight into the queue, each given to `side` with a
 /// move of it that stays in `own`; `left`, a part of it, becomes the others.
 fn gather_heaviest_in(
-    places: Places,
+    graph: &Graph,
     side: Side,
     heaviest: u32,
     own: &[u32],
@@ -108,19 +86,22 @@ fn gather_heaviest_in(
     out: &mut [u32],
     queue: &mut [u32],
 ) -> usize
-    requires game { (g : Game) × Shows places g × ((n : ℕ) → In (members left.old) n → n < length g) × (2 * length g ≤ length out.old) × (length g ≤ 32 * length own.now) }
+    requires inside { (n : ℕ) → In (members left.old) n → n < length graph.now }
+    requires answers { 2 * length graph.now ≤ length out.old }
+    requires sets { length graph.now ≤ 32 * length own.now }
     requires same { length left.old ≡ length own.now }
     requires room { size left.old ≤ length queue.old }
     requires small { 32 * length own.now < 2 ^ 32 }
     ensures counts { result + size left.new ≡ size left.old }
     ensures frame { (n : ℕ) → Out (members left.old) n → Unchanged out.old out.new n }
-    ensures gathered { (g : Game) → Shows places.entry g → GatheredIn g (members left.old) (members own.now) (number side) heaviest left.new queue.new out.new result }
+    ensures gathered { GatheredIn graph.now (members left.old) (members own.now) (number side) heaviest left.new queue.new out.new result }
 {
     let mut count = 0;
     let mut from = 0;
+    // The set loses members on the way, so that no iterator can borrow it.
     while let Some(place) = bits::next(left, from) {
-        if places.head(place).weight == heaviest {
-            take_place(places, side, place, own, left, out, queue, count);
+        if graph.head(place).weight == heaviest {
+            take_place(graph, side, place, own, left, out, queue, count);
             count += 1;
         }
         from = place + 1;
@@ -129,36 +110,36 @@ fn gather_heaviest_in(
 }
 
 /// The heaviest weight of the places of a list.
-fn heaviest_of(places: Places, list: &[u32]) -> u32
-    requires { (g : Game) × Shows places g × ((j : ℕ) → j < length list.now → slice_index list.now j < length g) }
-    ensures { (g : Game) → Shows places.entry g → 0 < length list.now → HeaviestOf g list.now result }
+fn heaviest_of(graph: &Graph, list: &[u32]) -> u32
+    requires { (j : ℕ) → j < length list.now → slice_index list.now j < length graph.now }
+    ensures { 0 < length list.now → HeaviestOf graph.now list.now result }
 {
     let mut most: u32 = 0;
     for place in list {
-        most = most.max(places.head(*place).weight);
+        most = most.max(graph.head(*place).weight);
     }
     most
 }
 
 /// The heaviest weight of a part, told by a list of its places, if there is
 /// one.
-pub(crate) fn heaviest_in(places: Places, list: &[u32], part: &[u32]) -> u32
-    requires game { (g : Game) × Shows places g × ((n : ℕ) → In (members part.now) n → n < length g) }
+pub(crate) fn heaviest_in(graph: &Graph, list: &[u32], part: &[u32]) -> u32
+    requires inside { (n : ℕ) → In (members part.now) n → n < length graph.now }
     requires told { Told list.now (members part.now) }
     requires small { 32 * length part.now < 2 ^ 32 }
-    ensures { (g : Game) → Shows places.entry g → 0 < size part.now → HeaviestIn g (members part.now) result }
+    ensures { 0 < size part.now → HeaviestIn graph.now (members part.now) result }
 {
     if list.len() == 0 {
-        heaviest(places, part)
+        heaviest(graph, part)
     } else {
-        heaviest_of(places, list)
+        heaviest_of(graph, list)
     }
 }
 
 /// Takes a place as `take_place` does, where it is left and has the weight.
 /// The number of places in the queue then.
 fn take_heavy(
-    places: Places,
+    graph: &Graph,
     side: Side,
     heaviest: u32,
     place: u32,
@@ -168,26 +149,28 @@ fn take_heavy(
     queue: &mut [u32],
     count: usize,
 ) -> usize
-    requires game { (g : Game) × Shows places g × (place < length g) × (2 * length g ≤ length out.old) × (length g ≤ 32 * length own.now) }
+    requires place { place < length graph.now }
+    requires answers { 2 * length graph.now ≤ length out.old }
+    requires sets { length graph.now ≤ 32 * length own.now }
     requires same { length left.old ≡ length own.now }
     requires room { count + size left.old ≤ length queue.old }
     requires few { count ≤ 32 * length own.now }
     requires small { 32 * length own.now < 2 ^ 32 }
-    ensures { TakenIf places.entry (number side) heaviest place (members own.now) count left.old queue.old out.old left.new queue.new out.new result }
+    ensures { TakenIf graph.now (number side) heaviest place (members own.now) count left.old queue.old out.old left.new queue.new out.new result }
 {
     if !bits::has(left, place) {
         return count;
     }
-    if places.head(place).weight != heaviest {
+    if graph.head(place).weight != heaviest {
         return count;
     }
-    take_place(places, side, place, own, left, out, queue, count);
+    take_place(graph, side, place, own, left, out, queue, count);
     count + 1
 }
 
 /// Does what `gather_heaviest_in` does, by a list of the places.
 fn gather_heaviest_of(
-    places: Places,
+    graph: &Graph,
     side: Side,
     heaviest: u32,
     list: &[u32],
@@ -196,17 +179,19 @@ fn gather_heaviest_of(
     out: &mut [u32],
     queue: &mut [u32],
 ) -> usize
-    requires game { (g : Game) × Shows places g × ((j : ℕ) → j < length list.now → slice_index list.now j < length g) × (2 * length g ≤ length out.old) × (length g ≤ 32 * length own.now) }
+    requires inside { (j : ℕ) → j < length list.now → slice_index list.now j < length graph.now }
+    requires answers { 2 * length graph.now ≤ length out.old }
+    requires sets { length graph.now ≤ 32 * length own.now }
     requires same { length left.old ≡ length own.now }
     requires room { size left.old ≤ length queue.old }
     requires small { 32 * length own.now < 2 ^ 32 }
     ensures counts { result + size left.new ≡ size left.old }
     ensures frame { (n : ℕ) → Out (members left.old) n → Unchanged out.old out.new n }
-    ensures gathered { (g : Game) → Shows places.entry g → 0 < length list.now → Told list.now (members left.old) → GatheredIn g (members left.old) (members own.now) (number side) heaviest left.new queue.new out.new result }
+    ensures gathered { 0 < length list.now → Told list.now (members left.old) → GatheredIn graph.now (members left.old) (members own.now) (number side) heaviest left.new queue.new out.new result }
 {
     let mut count = 0;
     for place in list {
-        count = take_heavy(places, side, heaviest, *place, own, left, out, queue, count);
+        count = take_heavy(graph, side, heaviest, *place, own, left, out, queue, count);
     }
     count
 }
@@ -214,7 +199,7 @@ fn gather_heaviest_of(
 /// Puts the places of a weight of a part into the queue: by the list, if there
 /// is one.
 pub(crate) fn gather_targets(
-    places: Places,
+    graph: &Graph,
     side: Side,
     heaviest: u32,
     list: &[u32],
@@ -223,19 +208,21 @@ pub(crate) fn gather_targets(
     out: &mut [u32],
     queue: &mut [u32],
 ) -> usize
-    requires game { (g : Game) × Shows places g × ((n : ℕ) → In (members left.old) n → n < length g) × (2 * length g ≤ length out.old) × (length g ≤ 32 * length own.now) }
+    requires inside { (n : ℕ) → In (members left.old) n → n < length graph.now }
+    requires answers { 2 * length graph.now ≤ length out.old }
+    requires sets { length graph.now ≤ 32 * length own.now }
     requires told { Told list.now (members left.old) }
     requires same { length left.old ≡ length own.now }
     requires room { size left.old ≤ length queue.old }
     requires small { 32 * length own.now < 2 ^ 32 }
     ensures counts { result + size left.new ≡ size left.old }
     ensures frame { (n : ℕ) → Out (members left.old) n → Unchanged out.old out.new n }
-    ensures gathered { (g : Game) → Shows places.entry g → GatheredIn g (members left.old) (members own.now) (number side) heaviest left.new queue.new out.new result }
+    ensures gathered { GatheredIn graph.now (members left.old) (members own.now) (number side) heaviest left.new queue.new out.new result }
 {
     if list.len() == 0 {
-        gather_heaviest_in(places, side, heaviest, own, left, out, queue)
+        gather_heaviest_in(graph, side, heaviest, own, left, out, queue)
     } else {
-        gather_heaviest_of(places, side, heaviest, list, own, left, out, queue)
+        gather_heaviest_of(graph, side, heaviest, list, own, left, out, queue)
     }
 }
 
@@ -252,6 +239,7 @@ pub(crate) fn gather_won(winner: Side, set: &mut [u32], out: &[u32], queue: &mut
     let word = winner.to_word();
     let mut count = 0;
     let mut from = 0;
+    // The set loses members on the way, so that no iterator can borrow it.
     while let Some(place) = bits::next(set, from) {
         if out[2 * place as usize] == word {
             bits::remove(set, place);

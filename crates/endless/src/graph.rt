@@ -1,11 +1,14 @@
 //! A game in words as a graph: where each place's words start, and which places may move to a place.
-ghost use Rattle.std.specs.Prelude.{◌≡◌, ℕ, suc, ◌+◌, ◌^◌, ◌<◌, ◌≤◌, List, length, slice_index};
+ghost use Rattle.std.specs.Prelude.{◌≡◌, ℕ, suc, ◌+◌, ◌^◌, ◌<◌, ◌≤◌, List, length, ◌==◌, slice_index};
 ghost use Rattle.endless.specs.Games.{Game, Reads, whose, weight};
 ghost use Rattle.endless.specs.Graph.{positions, moves, Reading, Placed, Preds, times, upto, Filling, Room, Counts, Entered, entering, edges, Ready, Listed};
-ghost use Rattle.endless.specs.View.{Shows, Graphs};
+ghost use Rattle.endless.specs.Sides.{number};
+ghost use Rattle.endless.specs.View.{Playable};
 
-use crate::place::HeadWords;
+use crate::place::{Head, HeadWords};
 use crate::positions::{position, put};
+use crate::side::Side;
+use std::marker::Model;
 
 /// The moves of the place whose words start at `at`.
 fn moves_at(words: &[u32], at: usize) -> &[u32]
@@ -30,12 +33,24 @@ pub fn find_starts(words: &[u32], low: &mut [u32], high: &mut [u32])
     }
 }
 
-/// The places of a game: its words, and where each place's words start.
-#[derive(Clone, Copy)]
+/// The places of a game: its words, and where each place's words start. In contracts it is the game.
+#[derive(Drop)]
 pub struct Places<'a> {
     words: &'a [u32],
     low: &'a [u32],
     high: &'a [u32],
+}
+
+impl<'a> Model for Places<'a> {
+    ghost use Rattle.endless.specs.Games.{Game};
+    ghost use Rattle.endless.specs.Graph.{positions, Placed};
+    ghost use Rattle.endless.specs.View.{game_in};
+
+    ghost Value = { Game };
+
+    ghost view = { λ p. game_in p.words.now };
+
+    ghost invariant = { λ p. Placed p.words.now (game_in p.words.now) (positions p.low.now p.high.now) };
 }
 
 impl<'a> Places<'a> {
@@ -44,45 +59,71 @@ impl<'a> Places<'a> {
         requires game { (g : Game) × Reads words.now g }
         requires low { length low.old ≡ slice_index words.now 0 }
         requires high { length high.old ≡ slice_index words.now 0 }
-        ensures { (g : Game) → Reads words.now g → Shows result g }
+        ensures { (g : Game) → Reads words.now g → result ≡ g }
     {
         find_starts(words, low, high);
         Places { words, low, high }
     }
 
     /// How many places there are.
-    pub fn len(self) -> u32
-        requires { (g : Game) × Shows self g }
-        ensures { (g : Game) → Shows self.entry g → result ≡ length g }
+    pub fn len(&self) -> u32
+        ensures len { result ≡ length self.now }
+        ensures playable { Playable self.now }
     {
         self.words[0]
     }
 
     /// Whose move it is at a place, its weight, and how many moves it has.
-    pub fn head(self, n: u32) -> HeadWords
-        requires { (g : Game) × (n < length g) × Shows self g }
-        ensures { (g : Game) → n < length g → Shows self.entry g → (result.whose ≡ whose g n) × (result.weight ≡ weight g n) × (result.moves ≡ length (moves g n)) }
+    pub fn head(&self, n: u32) -> Head
+        requires { n < length self.now }
+        ensures whose { number result.whose ≡ whose self.now n }
+        ensures weight { result.weight ≡ weight self.now n }
+        ensures moves { result.moves ≡ length (moves self.now n) }
+        ensures playable { Playable self.now }
     {
         let at = position(self.low, self.high, n as usize);
-        HeadWords::read(&self.words[at..])
+        match Head::read(&self.words[at..]) {
+            Some(head) => head,
+            None => unreachable(),
+        }
+    }
+
+    /// Whether it is this side's move at a place.
+    pub fn is_own(&self, side: Side, n: u32) -> bool
+        requires { n < length self.now }
+        ensures { result ≡ (whose self.now n == number side) }
+    {
+        self.head(n).whose.to_word() == side.to_word()
     }
 
     /// The moves of a place.
-    pub fn moves(self, n: u32) -> &'a [u32]
-        requires { (g : Game) × (n < length g) × Shows self g }
-        ensures { (g : Game) → n < length g → Shows self.entry g → result.now ≡ moves g n }
+    pub fn moves(&self, n: u32) -> &'a [u32]
+        requires { n < length self.now }
+        ensures moves { result.now ≡ moves self.now n }
+        ensures playable { Playable self.now }
     {
         moves_at(self.words, position(self.low, self.high, n as usize))
     }
 }
 
-/// A game as a graph: its places, and for each place the list of those that may move to it.
-#[derive(Clone, Copy)]
+/// A game as a graph: its places, and for each place the list of those that may move to it. In contracts it is the game.
+#[derive(Drop)]
 pub struct Graph<'a> {
-    pub places: Places<'a>,
+    places: Places<'a>,
     low: &'a [u32],
     high: &'a [u32],
     preds: &'a [u32],
+}
+
+impl<'a> Model for Graph<'a> {
+    ghost use Rattle.endless.specs.Games.{Game};
+    ghost use Rattle.endless.specs.Graph.{positions, Listed};
+
+    ghost Value = { Game };
+
+    ghost view = { λ v. v.places };
+
+    ghost invariant = { λ v. Listed v.places (positions v.low.now v.high.now) v.preds.now };
 }
 
 impl<'a> Graph<'a> {
@@ -93,14 +134,14 @@ impl<'a> Graph<'a> {
         high: &'a mut [u32],
         preds: &'a mut [u32],
     ) -> Graph<'a>
-        requires game { (g : Game) × Shows places g × (edges g ≤ length preds.old) }
-        requires low { length low.old ≡ slice_index places.words.now 0 + 1 }
-        requires high { length high.old ≡ slice_index places.words.now 0 + 1 }
-        ensures { (g : Game) → Shows places.entry g → edges g ≤ length preds.old → Graphs result g }
+        requires low { length low.old ≡ length places + 1 }
+        requires high { length high.old ≡ length places + 1 }
+        requires preds { edges places ≤ length preds.old }
+        ensures { result ≡ places.entry }
     {
-        count_entering(places, low, high);
+        count_entering(&places, low, high);
         sum_up(low, high);
-        list_sources(places, low, high, preds);
+        list_sources(&places, low, high, preds);
         Graph {
             places,
             low,
@@ -109,10 +150,46 @@ impl<'a> Graph<'a> {
         }
     }
 
+    /// How many places there are.
+    pub fn len(&self) -> u32
+        ensures len { result ≡ length self.now }
+        ensures playable { Playable self.now }
+    {
+        self.places.len()
+    }
+
+    /// Whose move it is at a place, its weight, and how many moves it has.
+    pub fn head(&self, n: u32) -> Head
+        requires { n < length self.now }
+        ensures whose { number result.whose ≡ whose self.now n }
+        ensures weight { result.weight ≡ weight self.now n }
+        ensures moves { result.moves ≡ length (moves self.now n) }
+        ensures playable { Playable self.now }
+    {
+        self.places.head(n)
+    }
+
+    /// Whether it is this side's move at a place.
+    pub fn is_own(&self, side: Side, n: u32) -> bool
+        requires { n < length self.now }
+        ensures { result ≡ (whose self.now n == number side) }
+    {
+        self.places.is_own(side, n)
+    }
+
+    /// The moves of a place.
+    pub fn moves(&self, n: u32) -> &'a [u32]
+        requires { n < length self.now }
+        ensures moves { result.now ≡ moves self.now n }
+        ensures playable { Playable self.now }
+    {
+        self.places.moves(n)
+    }
+
     /// The places that may move to `m`, each as often as it has that move.
-    pub fn preds(self, m: u32) -> &'a [u32]
-        requires { (g : Game) × (m < length g) × Graphs self g }
-        ensures { (g : Game) → m < length g → Graphs self.entry g → Preds g m result.now }
+    pub fn preds(&self, m: u32) -> &'a [u32]
+        requires { m < length self.now }
+        ensures preds { Preds self.now m result.now }
     {
         let from = position(self.low, self.high, m as usize);
         let to = position(self.low, self.high, m as usize + 1);
@@ -162,11 +239,11 @@ fn enter(place: u32, targets: &[u32], low: &mut [u32], high: &mut [u32], preds: 
 }
 
 /// Counts for each place the moves to it.
-fn count_entering(places: Places, low: &mut [u32], high: &mut [u32])
-    requires game { (g : Game) × Shows places g }
-    requires low { length low.old ≡ slice_index places.words.now 0 + 1 }
-    requires high { length high.old ≡ slice_index places.words.now 0 + 1 }
-    ensures { (g : Game) → Shows places.entry g → (m : ℕ) → slice_index (positions low.new high.new) m ≡ entering g m }
+fn count_entering(places: &Places, low: &mut [u32], high: &mut [u32])
+    requires low { length low.old ≡ length places.now + 1 }
+    requires high { length high.old ≡ length places.now + 1 }
+    requires fits { edges places.now < 2 ^ 64 }
+    ensures { (m : ℕ) → slice_index (positions low.new high.new) m ≡ entering places.now m }
 {
     low.fill(0);
     high.fill(0);
@@ -176,10 +253,10 @@ fn count_entering(places: Places, low: &mut [u32], high: &mut [u32])
 }
 
 /// Enters each place into the lists of its moves, the last place first.
-fn list_sources(places: Places, low: &mut [u32], high: &mut [u32], preds: &mut [u32])
+fn list_sources(places: &Places, low: &mut [u32], high: &mut [u32], preds: &mut [u32])
     requires long { length low.old ≡ length high.old }
-    requires game { (g : Game) × Shows places g × Ready g (positions low.old high.old) preds.old }
-    ensures { (g : Game) → Shows places.entry g → Ready g (positions low.old high.old) preds.old → Listed g (positions low.new high.new) preds.new }
+    requires ready { Ready places.now (positions low.old high.old) preds.old }
+    ensures { Listed places.now (positions low.new high.new) preds.new }
 {
     for v in (0..places.len()).rev() {
         enter(v, places.moves(v), low, high, preds);

@@ -5,11 +5,13 @@ ghost use Rattle.endless.specs.Says.{side, goes};
 ghost use Rattle.endless.specs.Sets.{whole};
 ghost use Rattle.endless.specs.Subgames.{Solves};
 ghost use Rattle.endless.specs.Pulling.{Unchanged};
-ghost use Rattle.endless.specs.Layout.{OutRoomIs, LaidOut};
+ghost use Rattle.endless.specs.Layout.{Accepts, OutRoomIs, LaidOut};
 
 use crate::by_parts::level_by_parts;
 use crate::graph::{Graph, Places};
 use crate::order::Effort;
+use crate::refusal::Refusal;
+use crate::words::is_game;
 use crate::{bits, weights};
 
 /// Whether 65,536 words and 4 for each word of the game are lent.
@@ -19,23 +21,35 @@ pub fn is_enough(words: usize, lent: usize) -> bool
     lent >= 65536 && (lent - 65536) / 4 >= words
 }
 
-/// Whether an answer has room.
-#[derive(Clone, Copy)]
-pub enum OutRoom {
-    Enough,
-    Short { needed: usize, given: usize },
+/// Whether these words can be worked on: enough are lent, and they are a game.
+pub fn accept(words: &[u32], lent: usize) -> Result<(), Refusal>
+    ensures { Accepts words.now lent result }
+{
+    if !is_enough(words.len(), lent) {
+        return Err(Refusal::Few);
+    }
+    if !is_game(words) {
+        return Err(Refusal::NoGame);
+    }
+    Ok(())
+}
+
+/// An answer has no room: how many words it takes, and how many there are.
+#[derive(Clone, Copy, Debug, PartialEq, Eq)]
+pub struct Short {
+    pub needed: usize,
+    pub given: usize,
 }
 
 /// Whether `given` words hold an answer for so many places.
-pub fn out_room(places: u32, given: usize) -> OutRoom
+pub fn out_room(places: u32, given: usize) -> Result<(), Short>
     ensures { OutRoomIs places given result }
 {
     let needed = 2 * places as usize;
     if given < needed {
-        OutRoom::Short { needed, given }
-    } else {
-        OutRoom::Enough
+        return Err(Short { needed, given });
     }
+    Ok(())
 }
 
 /// A game laid out in the lent words: its graph, a queue and cursors for its
@@ -93,7 +107,7 @@ pub(crate) fn solve_game<'a>(words: &'a [u32], out: &mut [u32], work: &'a mut [u
     let (sets, spare) = rest.split_at_mut(weights::levels(words) * all.len());
     let mut effort = Effort::new(words[0]);
     level_by_parts(
-        graph,
+        &graph,
         256,
         words[0] as usize,
         all,

@@ -13,6 +13,7 @@ pub mod answer;
 pub mod attractor;
 pub mod bits;
 pub mod by_parts;
+pub mod claim;
 pub mod closed;
 mod components;
 pub mod dominion;
@@ -26,48 +27,29 @@ pub mod losing_rounds;
 pub mod order;
 pub mod place;
 pub mod positions;
+mod ranking;
 pub mod ranks;
 pub mod reach;
+pub mod refusal;
 pub mod side;
 pub mod verdict;
 pub mod weights;
 pub mod words;
 
-use layout::OutRoom;
+pub use refusal::Refusal;
 pub use verdict::check;
 pub use words::is_game;
-
-/// What `solve` did: each place's winner and plan stand in the answer; or why
-/// not.
-#[derive(Clone, Copy)]
-pub enum Solved {
-    /// The answer stands there.
-    Done,
-    /// The answer has no room: it takes two words for each place.
-    OutFull,
-    /// The words are no game.
-    NoGame,
-    /// Fewer words are lent than 65,536 and 4 for each word of the game.
-    Few,
-}
 
 /// Who wins each place of the game that these words are, and with which plan:
 /// writes two words for each place to `out`, the side that wins it and a
 /// place, which at the winner's own places is the move of a plan that wins.
-/// `work` is lent, and holds anything before and after. Where the answer is
-/// not `Done`, `out` is as it was.
-pub fn solve(words: &[u32], out: &mut [u32], work: &mut [u32]) -> Solved
+/// `work` is lent, and holds anything before and after. Where the call is
+/// refused, `out` is as it was.
+pub fn solve(words: &[u32], out: &mut [u32], work: &mut [u32]) -> Result<(), Refusal>
     ensures { SolvedPost words.now (length work.old) out.old out.new result }
 {
-    if !layout::is_enough(words.len(), work.len()) {
-        return Solved::Few;
-    }
-    if !is_game(words) {
-        return Solved::NoGame;
-    }
-    let OutRoom::Enough = layout::out_room(words[0], out.len()) else {
-        return Solved::OutFull;
-    };
+    layout::accept(words, work.len())?;
+    layout::out_room(words[0], out.len())?;
     layout::solve_game(words, out, work);
-    Solved::Done
+    Ok(())
 }

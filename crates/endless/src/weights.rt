@@ -28,13 +28,7 @@ pub fn tally(words: &[u32]) -> [u32; WEIGHTS]
 pub fn different(counts: &[u32]) -> usize
     ensures { result ≡ count (λ k. nat_lt 0 (slice_index counts.now k)) (length counts.now) }
 {
-    let mut different = 0;
-    for count in counts {
-        if *count > 0 {
-            different += 1;
-        }
-    }
-    different
+    counts.iter().filter(|count| **count > 0).count()
 }
 
 /// How many different weights a game has.

@@ -58,10 +58,5 @@ fn place_end(words: &[u32], at: usize, places: u32) -> Option<usize>
 fn all_below(moves: &[u32], places: u32) -> bool
     ensures { result ≡ below places moves.now }
 {
-    for to in moves {
-        if *to >= places {
-            return false;
-        }
-    }
-    true
+    moves.iter().all(|to| *to < places)
 }

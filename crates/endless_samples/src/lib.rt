@@ -5,10 +5,10 @@
 mod tests {
     use endless::answer::PlaceId;
     use endless::flaw::Flaw;
-    use endless::reach::{Reached, attract_to};
+    use endless::reach::attract_to;
     use endless::side::Side;
-    use endless::verdict::{Checked, Reason};
-    use endless::{Solved, is_game, solve};
+    use endless::verdict::{Reason, Rejection};
+    use endless::{Refusal, is_game, solve};
     use std::test::Fail;
 
     // 0 is side 0's, weight 1, to 1 or 2; 1 is side 1's, weight 2, to 0; 2 is
@@ -19,8 +19,7 @@ mod tests {
     fn three_places(rt: HostRuntime) -> Result<(), Fail> {
         let mut work = vec![in rt.alloc(); 7; 65596]?;
         let mut out = [9; 8];
-        let done = matches!(solve(&THREE, &mut out, work.as_mut_slice()), Solved::Done);
-        assert!(rt; done);
+        assert!(rt; solve(&THREE, &mut out, work.as_mut_slice()).is_ok());
         assert_eq!(rt; (out[0], out[1], out[2]), (0, 1, 0));
         assert_eq!(rt; (out[4], out[5], out[6], out[7]), (1, 2, 9, 9));
         Ok(())
@@ -30,21 +29,18 @@ mod tests {
     fn refusals_leave_the_answer(rt: HostRuntime) -> Result<(), Fail> {
         let mut work = vec![in rt.alloc(); 7; 65596]?;
         let mut out = [9; 5];
-        let full = matches!(
+        assert_eq!(rt;
             solve(&THREE, &mut out, work.as_mut_slice()),
-            Solved::OutFull
+            Err(Refusal::OutFull)
         );
-        assert!(rt; full);
-        let none = matches!(
+        assert_eq!(rt;
             solve(&[1, 0, 0, 1, 1], &mut out, work.as_mut_slice()),
-            Solved::NoGame
+            Err(Refusal::NoGame)
         );
-        assert!(rt; none);
-        let few = matches!(
+        assert_eq!(rt;
             solve(&THREE, &mut out, &mut work.as_mut_slice()[1..]),
-            Solved::Few
+            Err(Refusal::Few)
         );
-        assert!(rt; few);
         assert_eq!(rt; out, [9; 5]);
         assert!(rt; is_game(&THREE));
         assert!(rt; !is_game(&[]));
@@ -55,17 +51,14 @@ mod tests {
     fn a_place_is_brought_about(rt: HostRuntime) -> Result<(), Fail> {
         let mut work = vec![in rt.alloc(); 7; 65596]?;
         let mut out = [9; 6];
-        let done = matches!(
-            attract_to(&THREE, PlaceId(2), Side::Odd, &mut out, work.as_mut_slice()),
-            Reached::Done
+        assert!(rt;
+            attract_to(&THREE, PlaceId(2), Side::Odd, &mut out, work.as_mut_slice()).is_ok()
         );
-        assert!(rt; done);
         assert_eq!(rt; (out[0], out[1], out[2], out[4]), (0, 1, 0, 1));
-        let nowhere = matches!(
+        assert_eq!(rt;
             attract_to(&THREE, PlaceId(3), Side::Odd, &mut out, work.as_mut_slice()),
-            Reached::NoPlace
+            Err(Refusal::NoPlace)
         );
-        assert!(rt; nowhere);
         Ok(())
     }
 
@@ -73,24 +66,20 @@ mod tests {
     fn an_answer_is_right(rt: HostRuntime) -> Result<(), Fail> {
         let mut work = vec![in rt.alloc(); 7; 65596]?;
         let work = work.as_mut_slice();
-        let right = matches!(
-            endless::check(&THREE, &[0, 1, 0, 9, 1, 2, 5], work),
-            Checked::Right
-        );
-        assert!(rt; right);
+        assert!(rt; endless::check(&THREE, &[0, 1, 0, 9, 1, 2, 5], work).is_ok());
         let few = matches!(
             endless::check(&THREE, &[0, 1, 0, 9, 1, 2], &mut work[1..]),
-            Checked::Few
+            Err(Rejection::Refused(Refusal::Few))
         );
         assert!(rt; few);
         let none = matches!(
             endless::check(&[1, 0, 0, 1, 1], &[0, 0], work),
-            Checked::NoGame
+            Err(Rejection::Refused(Refusal::NoGame))
         );
         assert!(rt; none);
         let short = matches!(
             endless::check(&THREE, &[0, 1, 0, 9, 1], work),
-            Checked::Wrong(Reason::Short)
+            Err(Rejection::Wrong(Reason::Short))
         );
         assert!(rt; short);
         Ok(())
@@ -102,7 +91,7 @@ mod tests {
         let work = work.as_mut_slice();
         let neither = matches!(
             endless::check(&THREE, &[0, 1, 2, 0, 1, 2], work),
-            Checked::Wrong(Reason::NoSide(PlaceId(1)))
+            Err(Rejection::Wrong(Reason::NoSide(PlaceId(1))))
         );
         assert!(rt; neither);
         // from 0 there is no move to 0; and 2 is not given to side 0
@@ -119,8 +108,9 @@ mod tests {
 
     // whose plan has a flaw in the game of three places, which, and where
     fn flaw(answer: &[u32], work: &mut [u32]) -> (u32, u32, u32, u32) {
-        let Checked::Wrong(Reason::Plan { side, flaw }) = endless::check(&THREE, answer, work)
-        else {
+        let Err(Rejection::Wrong(Reason::Plan { side, flaw })) = endless::check(
+            &THREE, answer, work,
+        ) else {
             return (9, 0, 0, 0);
         };
         let (kind, place, told) = match flaw {

@@ -1,7 +1,7 @@
 -- What `solve_with_ends` promises, for each of its answers.
-use Rattle.std.proofs.Common.{◌≡◌, ℕ, ◌+◌, ◌*◌, ◌<◌, ◌≤◌, List, ◌∷◌, length, take, drop, sym, refl, ap, ◌∙◌, subst, arith}
-use Rattle.endless.specs.declared.Solved.{Solved}
-use Rattle.endless.specs.declared.Solved.TheVariants.{Done, OutFull, NoGame, Few}
+use Rattle.std.proofs.Common.{◌≡◌, ℕ, ◌+◌, ◌*◌, ◌<◌, ◌≤◌, List, ◌∷◌, length, take, drop, Ok, Err, Result, sym, refl, ap, ◌∙◌, subst, arith}
+use Rattle.endless.specs.declared.refusal.Refusal.{Refusal}
+use Rattle.endless.specs.declared.refusal.Refusal.TheVariants.{Few, NoGame, NoPlace, OutFull}
 use Rattle.endless.specs.Games.{Game, Reads, row}
 use Rattle.endless.specs.Says.{WinsFrom, side, goes}
 use Rattle.endless.specs.Promises.{SolvedSays, SolvedPost}
@@ -13,10 +13,10 @@ use Rattle.ends.proofs.Forms.{length_made, side_fits, made_reads, reads_made, ke
 use Rattle.endless.proofs.Unique.{rows}
 use Rattle.ends.proofs.Theorems.{parts, from_made}
 
-pub few_post : (s : List ℕ) (w : ℕ) (o : List ℕ) → w < needed s → EndsPost s w o o Few
+pub few_post : (s : List ℕ) (w : ℕ) (o : List ℕ) → w < needed s → EndsPost s w o o (Err Few)
 few_post s w o h = record { says = refl; few = (λ x. refl, λ e. h); only = λ e. let z : ◌≡◌ {A = ℕ} 0 1 = cc in absurd (omega arith); as_solve = λ g r l. absurd (omega arith); parts = parts }
 
-pub no_game_post : (s : List ℕ) (w : ℕ) (o : List ℕ) → needed s ≤ w → ((g : Game) → ReadsEnds s g → ⊥) → EndsPost s w o o NoGame
+pub no_game_post : (s : List ℕ) (w : ℕ) (o : List ℕ) → needed s ≤ w → ((g : Game) → ReadsEnds s g → ⊥) → EndsPost s w o o (Err NoGame)
 no_game_post s w o h none = record {
   says = (none, refl);
   few = (λ x. absurd (omega arith), λ e. let z : ◌≡◌ {A = ℕ} 0 1 = cc in absurd (omega arith));
@@ -53,16 +53,17 @@ module _ (s t m : List ℕ) (len : ℕ) (mended : Mended s t len) (is : m ≡ ta
   size h r = ap length (back h r) ∙ length_made 0 game
 
   module _ (o o' : List ℕ) where
-    says : (r : Solved) → SolvedSays m o o' r → EndsSays s o o' r
-    says Done (h, r, room, two, even, odd, behind) =
+    says : (r : Result (Unit {0}) Refusal) → SolvedSays m o o' r → EndsSays s o o' r
+    says (Ok u) (h, r, room, two, even, odd, behind) =
         let e = size h r in
         let wins : (w : ℕ) → w < 2 → WinsFrom h w (goes o') (λ n. (n < length h) × (side o' n ≡ w)) → _ = λ w l x. from_made game w (goes o') (side o') l (subst (λ (k : Game). WinsFrom k w (goes o') (λ n. (n < length k) × (side o' n ≡ w))) (back h r) x) in
         (game, reads h r, omega arith, λ n l. two n (omega arith), wins 0 (omega arith) even, wins 1 (omega arith) odd, subst (λ (k : ℕ). drop (2 * k) o' ≡ drop (2 * k) o) e behind)
-    says OutFull (h, r, short, kept) = let e = size h r in (game, reads h r, omega arith, kept)
-    says NoGame (none, kept) = (λ g r. none (made g) (forth g r), kept)
-    says Few kept = kept
+    says (Err OutFull) (h, r, short, kept) = let e = size h r in (game, reads h r, omega arith, kept)
+    says (Err NoGame) (none, kept) = (λ g r. none (made g) (forth g r), kept)
+    says (Err Few) kept = kept
+    says (Err NoPlace) none = none
 
-    pub ends_post : (w v : ℕ) (r : Solved) → needed s ≤ w → 65536 + 4 * length m ≤ v → SolvedPost m v o o' r → EndsPost s w o o' r
+    pub ends_post : (w v : ℕ) (r : Result (Unit {0}) Refusal) → needed s ≤ w → 65536 + 4 * length m ≤ v → SolvedPost m v o o' r → EndsPost s w o o' r
     ends_post w v r enough room p = record {
       says = says r p.says;
       few = (λ x. absurd (omega arith), λ e. absurd (omega (arith, p.few.1 e)));

@@ -1,7 +1,7 @@
 -- The theorems about games with ends, as types, and what the call promises.
-use Rattle.std.specs.Prelude.{◌≡◌, ℕ, ◌+◌, ◌*◌, ◌<◌, ◌≤◌, Bool, cond, T, ◌↔◌, List, ◌∷◌, length, drop, nat_lt, slice_index}
-use Rattle.endless.specs.declared.Solved.{Solved}
-use Rattle.endless.specs.declared.Solved.TheVariants.{Done, OutFull, NoGame, Few}
+use Rattle.std.specs.Prelude.{◌≡◌, ℕ, ◌+◌, ◌*◌, ◌<◌, ◌≤◌, Bool, cond, T, ◌↔◌, List, ◌∷◌, length, drop, Ok, Err, Result, nat_lt, slice_index}
+use Rattle.endless.specs.declared.refusal.Refusal.{Refusal}
+use Rattle.endless.specs.declared.refusal.Refusal.TheVariants.{Few, NoGame, NoPlace, OutFull}
 use Rattle.endless.specs.Games.{Game, Reads, row, Play, Wins}
 use Rattle.endless.specs.Says.{WinsFrom, side, goes}
 use Rattle.endless.specs.Promises.{SolvedPost}
@@ -52,20 +52,21 @@ abbrev pub needed : List ℕ → ℕ
 needed s = 65536 + 5 * (length s + told s)
 
 -- what each answer says
-abbrev pub EndsSays : List ℕ → List ℕ → List ℕ → Solved → Type 0
-EndsSays s o o' Done = (g : Game) × ReadsEnds s g × (2 * length g ≤ length o) × ((n : ℕ) → n < length g → side o' n < 2) × WinsFromEnds g 0 (goes o') (λ n. (n < length g) × (side o' n ≡ 0)) × WinsFromEnds g 1 (goes o') (λ n. (n < length g) × (side o' n ≡ 1)) × (drop (2 * length g) o' ≡ drop (2 * length g) o)
-EndsSays s o o' OutFull = (g : Game) × ReadsEnds s g × (length o < 2 * length g) × (o' ≡ o)
-EndsSays s o o' NoGame = ((g : Game) → ReadsEnds s g → ⊥) × (o' ≡ o)
-EndsSays s o o' Few = o' ≡ o
+abbrev pub EndsSays : List ℕ → List ℕ → List ℕ → Result (Unit {0}) Refusal → Type 0
+EndsSays s o o' (Ok u) = (g : Game) × ReadsEnds s g × (2 * length g ≤ length o) × ((n : ℕ) → n < length g → side o' n < 2) × WinsFromEnds g 0 (goes o') (λ n. (n < length g) × (side o' n ≡ 0)) × WinsFromEnds g 1 (goes o') (λ n. (n < length g) × (side o' n ≡ 1)) × (drop (2 * length g) o' ≡ drop (2 * length g) o)
+EndsSays s o o' (Err OutFull) = (g : Game) × ReadsEnds s g × (length o < 2 * length g) × (o' ≡ o)
+EndsSays s o o' (Err NoGame) = ((g : Game) → ReadsEnds s g → ⊥) × (o' ≡ o)
+EndsSays s o o' (Err Few) = o' ≡ o
+EndsSays s o o' (Err NoPlace) = ⊥
 
 -- whatever plan wins for a side, from wherever, wins only places that the answer gives to that side
-abbrev pub OnlyEnds : List ℕ → List ℕ → Solved → Type 0
-OnlyEnds s o' r = r ≡ Done → (g : Game) (w : ℕ) (plan : ℕ → ℕ) (won : ℕ → Bool) (n : ℕ) → ReadsEnds s g → w < 2 → WinsFromEnds g w plan (λ m. T (won m)) → n < length g → T (won n) → side o' n ≡ w
+abbrev pub OnlyEnds : List ℕ → List ℕ → Result (Unit {0}) Refusal → Type 0
+OnlyEnds s o' r = r ≡ Ok tt → (g : Game) (w : ℕ) (plan : ℕ → ℕ) (won : ℕ → Bool) (n : ℕ) → ReadsEnds s g → w < 2 → WinsFromEnds g w plan (λ m. T (won m)) → n < length g → T (won n) → side o' n ≡ w
 
 -- `solve_with_ends`; words with a move at each place get the answer that `solve` promises of them
-pub record EndsPost (s : List ℕ) (w : ℕ) (o o' : List ℕ) (r : Solved) : Type 0 where
+pub record EndsPost (s : List ℕ) (w : ℕ) (o o' : List ℕ) (r : Result (Unit {0}) Refusal) : Type 0 where
   pub says : EndsSays s o o' r
-  pub few : (w < needed s) ↔ (r ≡ Few)
+  pub few : (w < needed s) ↔ (r ≡ Err Few)
   pub only : OnlyEnds s o' r
   pub as_solve : (g : Game) → Reads s g → needed s ≤ w → SolvedPost s w o o' r
   pub parts : Parts

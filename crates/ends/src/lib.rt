@@ -7,7 +7,7 @@ ghost use Rattle.ends.specs.Says.{told, EndsPost};
 
 mod mend;
 
-use endless::Solved;
+use endless::Refusal;
 use endless::words::MOST_PLACES;
 use mend::mend;
 
@@ -15,18 +15,18 @@ use mend::mend;
 /// over plays that may end, as `endless::solve` says it of plays without end.
 /// `work` is lent, at least 65,536 words and 5 for each word of the game and
 /// each place that the first word tells: there the places without moves are
-/// given one, and the game so made is solved. Where the answer is not `Done`,
-/// `out` is as it was.
-pub fn solve_with_ends(words: &[u32], out: &mut [u32], work: &mut [u32]) -> Solved
+/// given one, and the game so made is solved. Where the call is refused, `out`
+/// is as it was.
+pub fn solve_with_ends(words: &[u32], out: &mut [u32], work: &mut [u32]) -> Result<(), Refusal>
     ensures { EndsPost words.now (length work.old) out.old out.new result }
 {
     let places = told(words);
     if !is_enough(words.len(), places, work.len()) {
-        return Solved::Few;
+        return Err(Refusal::Few);
     }
     let (made, work) = work.split_at_mut(words.len() + places);
     let Some(len) = mend(words, made) else {
-        return Solved::NoGame;
+        return Err(Refusal::NoGame);
     };
     endless::solve(&made[0..len], out, work)
 }

@@ -4,11 +4,10 @@ use Rattle.distance.proofs.spread.clear.Goals as goal
 
 pub bounds-moves-0 : goal.bounds-moves-0
 bounds-moves-0 c =
-    let p = c.requires in
-    let here : c.loop-place.place < length p.0 = omega (arith, c.len-place-end.ensures p.0 p.1) in
-    omega (arith, some_moves p.1.reads c.loop-place.place here, ap length (c.moves-moves.ensures p.0 here p.1))
+    let here : c.loop-place.place < length c.args.graph.now = omega (arith, c.len-place-end.ensures.len) in
+    omega (arith, some_moves c.moves-moves.ensures.playable c.loop-place.place here, ap length c.moves-moves.ensures.moves)
 
 pub loop-place-preserved : goal.loop-place-preserved
-loop-place-preserved c = λ g shows room long.
-    let here : c.loop-place.place < length g = omega (arith, c.len-place-end.ensures g shows) in
-    cleared_more shows.reads (c.loop-place.invariant g shows room long) here (omega (arith, room)) (omega (arith, long)) (c.moves-moves.ensures g here shows) (c.head.ensures g here shows).2
+loop-place-preserved c =
+    let here : c.loop-place.place < length c.args.graph.now = omega (arith, c.len-place-end.ensures.len) in
+    cleared_more c.moves-moves.ensures.playable c.loop-place.invariant here (omega (arith, c.requires.answers)) (omega (arith, c.requires.counts)) c.moves-moves.ensures.moves c.head.ensures.moves

@@ -1,28 +1,23 @@
 use Rattle.std.proofs.Common.{ℕ, List, sym, ◌∙◌, subst, inl, inr, arith}
-use Rattle.endless.specs.Says.{side}
-use Rattle.endless.specs.Sets.{having}
 use Rattle.endless.specs.Subgames.{Subgame}
 use Rattle.endless.specs.Bits.{members}
 use Rattle.endless.specs.Sides.{number}
-use Rattle.endless.specs.Pulling.{Starts}
 use Rattle.endless.specs.Levels.{Peeled, Peels}
 use Rattle.endless.specs.Parts.{Part}
 use Rattle.endless.proofs.Levels.{none_lost, peeled_of}
 use Rattle.endless.proofs.by_parts.peel_part.Goals as goal
 
-pub gather_lost-lost-requires : goal.gather_lost-lost-requires
-gather_lost-lost-requires c =
-    let p = c.requires.game in
-    record { part = c.requires.part; answers = λ n x. omega (arith, p.2 n x, p.3.answers); room = c.requires.room; small = c.requires.small }
+pub gather_lost-lost-requires-clause-answers : goal.gather_lost-lost-requires-clause-answers
+gather_lost-lost-requires-clause-answers c = λ n x. omega (arith, c.requires.inside n x, c.requires.sized.answers)
 
 pub peel_won-requires : goal.peel_won-requires
 peel_won-requires c =
-    let p = c.requires.game in
     let r = c.requires.part in
     let same = c.gather_lost-lost.ensures.same c.if-lost-eq0.true in
     let starts = c.gather_lost-lost.ensures.starts r.0 r.1 in
     record {
-      game = (p.0, p.1, λ n x. p.2 n (starts.rest n x), record { sets = omega (arith, p.3.sets); answers = p.3.answers; cursors = p.3.cursors });
+      inside = λ n x. c.requires.inside n (starts.rest n x);
+      sized = record { sets = omega (arith, c.requires.sized.sets); answers = c.requires.sized.answers; cursors = c.requires.sized.cursors };
       part = (r.0, subst (λ (l : List ℕ). Part l c.args.list.now r.0) (sym same) r.1);
       counted = omega (arith, c.gather_lost-lost.ensures.counts, c.requires.counted);
       room = omega (arith, c.gather_lost-lost.ensures.counts, c.requires.room);
@@ -40,27 +35,21 @@ returns-then-lost-eq0 c =
       falls = λ h. omega (arith, c.gather_lost-lost.ensures.counts, ends.falls (omega (arith, c.gather_lost-lost.ensures.counts)));
       less = λ n x. starts.rest n (ends.less n x);
       frame = λ n x. ends.frame n (λ y. x (starts.rest n y));
-      peels = λ g R gr sub part. inl (
-        λ n u e. none_lost (members c.args.own.now) R _ c.gather_lost-lost.new.set c.gather_lost-lost.new.queue c.args.out.now
-            (subst (λ (k : ℕ). Starts (members c.args.own.now) (having R (side c.args.out.now) (number c.other-loser.result)) c.gather_lost-lost.new.set c.gather_lost-lost.new.queue k) c.if-lost-eq0.true (c.gather_lost-lost.ensures.starts R part)) n u (e ∙ sym c.other-loser.ensures),
-        subst (λ (l : List ℕ). Peeled g (members l) (number c.args.winner) R (members c.peel_won.new.own) c.args.out.now c.peel_won.new.out) same
-            (ends.peeled g R gr (subst (λ (l : List ℕ). Subgame g (members l)) (sym same) sub) (subst (λ (l : List ℕ). Part l c.args.list.now R) (sym same) part)),
+      peels = λ R sub part. inl (
+        λ n u e. none_lost R c.args.out.now c.if-lost-eq0.true (c.gather_lost-lost.ensures.starts R part) n u (e ∙ sym c.other-loser.ensures),
+        subst (λ (l : List ℕ). Peeled c.args.graph.now (members l) (number c.args.winner) R (members c.peel_won.new.own) c.args.out.now c.peel_won.new.out) same
+            (ends.peeled R (subst (λ (l : List ℕ). Subgame c.args.graph.now (members l)) (sym same) sub) (subst (λ (l : List ℕ). Part l c.args.list.now R) (sym same) part)),
       );
     }
 
 pub attract_counted-taken-requires : goal.attract_counted-taken-requires
 attract_counted-taken-requires c =
-    let p = c.requires.game in
     let r = c.requires.part in
     let starts = c.gather_lost-lost.ensures.starts r.0 r.1 in
     record {
-      game = (
-        p.0,
-        p.1,
-        record { sets = omega (arith, p.3.sets); answers = p.3.answers; cursors = p.3.cursors },
-        λ n x. p.2 n (starts.rest n x),
-        λ j h. p.2 _ (starts.inside _ (starts.first j h)),
-      );
+      sized = record { sets = omega (arith, c.requires.sized.sets); answers = c.requires.sized.answers; cursors = c.requires.sized.cursors };
+      inside = λ n x. c.requires.inside n (starts.rest n x);
+      targets = λ j h. c.requires.inside _ (starts.inside _ (starts.first j h));
       room = omega (arith, c.gather_lost-lost.ensures.counts, c.requires.room);
       counted = c.requires.counted ∙ sym c.gather_lost-lost.ensures.counts;
     }
@@ -77,9 +66,8 @@ returns-else-lost-eq0 c =
       falls = λ h. omega (arith, c.gather_lost-lost.ensures.counts, c.attract_counted-taken.ensures.moved.counts, c.attract_counted-taken.ensures.moved.grows);
       less = λ n x. starts.rest n (c.attract_counted-taken.ensures.moved.less n x);
       frame = λ n x. c.attract_counted-taken.ensures.moved.frame n (λ y. absurd (x (starts.rest n y)));
-      peels = λ g R gr sub part.
+      peels = λ R sub part.
           let here = c.gather_lost-lost.ensures.starts R part in
-          subst (λ (q : ℕ). Peels g (members c.args.own.now) R (number c.args.winner) q (members c.attract_counted-taken.new.left) c.args.out.now c.attract_counted-taken.new.out) c.other-loser.ensures
-          (inr (peeled_of g (members c.args.own.now) _ (number c.other-loser.result) c.gather_lost-lost.new.set c.gather_lost-lost.new.queue c.args.out.now c.gather_lost-lost.result c.attract_counted-taken.new.left c.attract_counted-taken.new.queue c.attract_counted-taken.new.out c.attract_counted-taken.result
-          here c.attract_counted-taken.ensures.moved (c.attract_counted-taken.ensures.attracts g (members c.args.own.now) _ gr sub here)));
+          subst (λ (q : ℕ). Peels c.args.graph.now (members c.args.own.now) R (number c.args.winner) q (members c.attract_counted-taken.new.left) c.args.out.now c.attract_counted-taken.new.out) c.other-loser.ensures
+          (inr (peeled_of here c.attract_counted-taken.ensures.moved (c.attract_counted-taken.ensures.attracts (members c.args.own.now) _ sub here)));
     }

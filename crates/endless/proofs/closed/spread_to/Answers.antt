@@ -5,28 +5,22 @@ use Rattle.endless.proofs.Parts.{spread_none, spread_room, spread_one, inserted_
 use Rattle.endless.proofs.closed.spread_to.Goals as goal
 
 pub returns-then-not-has : goal.returns-then-not-has
-returns-then-not-has c = record {
-  spread = spread_none c.args.set.now c.args.part.now c.args.queue.now c.args.count c.requires.lists;
-  holds = λ x. absurd (both_ways _ (sym c.if-not-has.ensures) (T_true _ x));
-}
+returns-then-not-has c = record { spread = spread_none c.requires.lists; holds = λ x. absurd (both_ways _ (sym c.if-not-has.ensures) (T_true _ x)) }
 
 pub returns-then-has : goal.returns-then-has
-returns-then-has c = record {
-  spread = spread_none c.args.set.now c.args.part.now c.args.queue.now c.args.count c.requires.lists;
-  holds = λ x. true_T _ (sym c.if-has.ensures);
-}
+returns-then-has c = record { spread = spread_none c.requires.lists; holds = λ x. true_T _ (sym c.if-has.ensures) }
 
 pub offset_bounds-queue-count : goal.offset_bounds-queue-count
-offset_bounds-queue-count c = omega (arith, spread_room c.args.set.now c.args.part.now c.args.queue.now c.args.count c.args.place c.requires.same c.requires.room c.requires.lists (sym c.if-not-has.ensures) (sym c.if-has.ensures))
+offset_bounds-queue-count c = omega (arith, spread_room c.args.place c.requires.same c.requires.room c.requires.lists (sym c.if-not-has.ensures) (sym c.if-has.ensures))
 
 pub bounds-queue-count : goal.bounds-queue-count
-bounds-queue-count c = spread_room c.args.set.now c.args.part.now c.args.queue.now c.args.count c.args.place c.requires.same c.requires.room c.requires.lists (sym c.if-not-has.ensures) (sym c.if-has.ensures)
+bounds-queue-count c = spread_room c.args.place c.requires.same c.requires.room c.requires.lists (sym c.if-not-has.ensures) (sym c.if-has.ensures)
 
 pub overflow_add-result : goal.overflow_add-result
-overflow_add-result c = omega (arith, spread_room c.args.set.now c.args.part.now c.args.queue.now c.args.count c.args.place c.requires.same c.requires.room c.requires.lists (sym c.if-not-has.ensures) (sym c.if-has.ensures))
+overflow_add-result c = omega (arith, spread_room c.args.place c.requires.same c.requires.room c.requires.lists (sym c.if-not-has.ensures) (sym c.if-has.ensures))
 
 pub returns : goal.returns
 returns c = record {
-  spread = spread_one c.args.set.now c.args.part.now c.args.queue.now c.args.count c.args.place c.requires.same c.requires.room c.requires.lists (sym c.if-not-has.ensures) (sym c.if-has.ensures) c.insert.new.set _ c.insert.ensures refl;
-  holds = λ x. inserted_in c.args.part.now c.args.place c.insert.new.set c.insert.ensures;
+  spread = spread_one c.args.place c.requires.same c.requires.room c.requires.lists (sym c.if-not-has.ensures) (sym c.if-has.ensures) c.insert.ensures refl;
+  holds = λ x. inserted_in c.insert.ensures;
 }

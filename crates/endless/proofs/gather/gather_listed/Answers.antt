@@ -16,9 +16,5 @@ take_wanted-count-requires c = record {
 pub loop-place-preserved : goal.loop-place-preserved
 loop-place-preserved c = picking_more c.loop-place.invariant (omega (arith, c.requires.room)) c.take_wanted-count.ensures
 
-pub returns : goal.returns
-returns c = record {
-  counts = c.loop-place.invariant.counts;
-  same = c.loop-place.invariant.same;
-  starts = λ R. picking_all c.loop-place.invariant R (omega arith);
-}
+pub returns-clause-starts : goal.returns-clause-starts
+returns-clause-starts c = λ R. picking_all c.loop-place.invariant R (omega arith)

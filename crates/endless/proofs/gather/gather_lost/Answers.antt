@@ -9,27 +9,16 @@ use Rattle.endless.proofs.SetLaws.{members_below}
 use Rattle.endless.proofs.Picking.{told_in, starts_as}
 use Rattle.endless.proofs.gather.gather_lost.Goals as goal
 
-pub gather_listed-requires : goal.gather_listed-requires
-gather_listed-requires c =
-    let p = c.requires.part in
-    record {
-      answers = λ j h. c.requires.answers _ (p.1.within _ (told_in c.args.list.now p.0 p.1.told j h));
-      inside = λ j h. members_below c.args.set.now _ (T_true _ (p.1.within _ (told_in c.args.list.now p.0 p.1.told j h)));
-      room = c.requires.room;
-    }
+pub gather_listed-requires-clause-answers : goal.gather_listed-requires-clause-answers
+gather_listed-requires-clause-answers c = λ j h. let p = c.requires.part in c.requires.answers _ (p.1.within _ (told_in c.args.list.now p.0 p.1.told j h))
 
-pub returns-then-list-eq0 : goal.returns-then-list-eq0
-returns-then-list-eq0 c = record {
-  counts = c.gather_won.ensures.counts;
-  same = c.gather_won.ensures.same;
-  starts = λ R part. starts_as _ (having (members c.args.set.now) (side c.args.out.now) (number c.args.winner)) _ _ _ _
-      (λ n x. having_in R _ _ n (part.whole c.if-list-eq0.true n (having_within _ _ _ n x)) (having_is _ _ _ n x))
-      (λ n x. having_in _ _ _ n (part.within n (having_within R _ _ n x)) (having_is R _ _ n x)) c.gather_won.ensures.starts;
-}
+pub gather_listed-requires-clause-inside : goal.gather_listed-requires-clause-inside
+gather_listed-requires-clause-inside c = λ j h. let p = c.requires.part in members_below c.args.set.now _ (T_true _ (p.1.within _ (told_in c.args.list.now p.0 p.1.told j h)))
 
-pub returns-else-list-eq0 : goal.returns-else-list-eq0
-returns-else-list-eq0 c = record {
-  counts = c.gather_listed.ensures.counts;
-  same = c.gather_listed.ensures.same;
-  starts = λ R part. c.gather_listed.ensures.starts R (omega arith) part.within part.told;
-}
+pub returns-then-list-eq0-clause-starts : goal.returns-then-list-eq0-clause-starts
+returns-then-list-eq0-clause-starts c = λ R part. starts_as _ (having (members c.args.set.now) (side c.args.out.now) (number c.args.winner)) _ _ _ _
+    (λ n x. having_in R _ _ n (part.whole c.if-list-eq0.true n (having_within _ _ _ n x)) (having_is _ _ _ n x))
+    (λ n x. having_in _ _ _ n (part.within n (having_within R _ _ n x)) (having_is R _ _ n x)) c.gather_won.ensures.starts
+
+pub returns-else-list-eq0-clause-starts : goal.returns-else-list-eq0-clause-starts
+returns-else-list-eq0-clause-starts c = λ R part. c.gather_listed.ensures.starts R (omega arith) part.within part.told

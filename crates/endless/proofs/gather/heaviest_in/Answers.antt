@@ -3,7 +3,7 @@ use Rattle.endless.proofs.Picking.{heaviest_told, told_in}
 use Rattle.endless.proofs.gather.heaviest_in.Goals as goal
 
 pub heaviest_of-requires : goal.heaviest_of-requires
-heaviest_of-requires c = let p = c.requires.game in (p.0, p.1, λ j h. p.2 _ (told_in c.args.list.now _ c.requires.told j h))
+heaviest_of-requires c = λ j h. c.requires.inside _ (told_in c.args.list.now _ c.requires.told j h)
 
 pub returns-else-list-eq0 : goal.returns-else-list-eq0
-returns-else-list-eq0 c = λ g s some. heaviest_told g c.args.list.now _ _ (omega arith) c.requires.told (c.heaviest_of.ensures g s (omega arith))
+returns-else-list-eq0 c = λ some. heaviest_told c.args.graph.now c.args.list.now _ _ (omega arith) c.requires.told (c.heaviest_of.ensures (omega arith))

@@ -1,4 +1,5 @@
 use Rattle.std.proofs.Common.{ltb, ap, ◌∙◌, arith}
+use Rattle.endless.specs.Graph.{edges}
 use Rattle.endless.proofs.Reading.{places_are}
 use Rattle.endless.proofs.Preds.{words_length}
 use Rattle.endless.proofs.Layouts.{sets_fit}
@@ -7,17 +8,10 @@ use Rattle.endless.proofs.layout.lay_out.Goals as goal
 pub overflow_sub-moves-2 : goal.overflow_sub-moves-2
 overflow_sub-moves-2 c = let p = c.requires in omega (arith, words_length c.args.words.now p.0 p.1, places_are c.args.words.now p.0 p.1)
 
-pub new-graph-requires : goal.new-graph-requires
-new-graph-requires c =
+pub new-graph-requires-clause-preds : goal.new-graph-requires-clause-preds
+new-graph-requires-clause-preds c =
     let p = c.requires in
-    let shows = c.new-view.ensures p.0 p.1 in
-    let here = places_are c.args.words.now p.0 p.1 in
-    let there = places_are c.new-view.result.words.now p.0 shows.reads in
-    record {
-      game = (p.0, shows, omega (arith, c.split_at_mut-preds.ensures.front_len, words_length c.args.words.now p.0 p.1, here));
-      low = omega (arith, c.split_at_mut-low-2.ensures.front_len, here, there);
-      high = omega (arith, c.split_at_mut-high-2.ensures.front_len, here, there);
-    }
+    omega (arith, ap edges (c.new-view.ensures p.0 p.1), words_length c.args.words.now p.0 p.1, places_are c.args.words.now p.0 p.1)
 
 pub split_at_mut-queue-requires : goal.split_at_mut-queue-requires
 split_at_mut-queue-requires c =
@@ -39,24 +33,12 @@ returns c = λ g r.
     let here = places_are c.args.words.now g r in
     let long = words_length c.args.words.now g r in
     record {
-      graphs = c.new-graph.ensures g (c.new-view.ensures g r) (omega (arith, c.split_at_mut-preds.ensures.front_len));
-      queue = omega (arith, c.split_at_mut-queue.ensures.front_len);
-      escapes = omega (arith, c.split_at_mut-escapes.ensures.front_len);
+      is = c.new-graph.ensures ∙ c.new-view.ensures g r;
+      queue = omega arith;
+      escapes = omega arith;
       are = λ j. c.fill.ensures.are j ∙ ap (ltb j) here;
       many = c.fill.ensures.many ∙ here;
-      wide = omega (arith, c.split_at_mut-all.ensures.front_len, c.div_ceil.ensures);
-      rest = omega (
-        arith,
-        sets_fit c.args.words.now g r,
-        c.requires.2,
-        c.split_at_mut-low.ensures.back_len,
-        c.split_at_mut-high.ensures.back_len,
-        c.split_at_mut-low-2.ensures.back_len,
-        c.split_at_mut-high-2.ensures.back_len,
-        c.split_at_mut-preds.ensures.back_len,
-        c.split_at_mut-queue.ensures.back_len,
-        c.split_at_mut-escapes.ensures.back_len,
-        c.split_at_mut-all.ensures.back_len,
-        c.div_ceil.ensures,
-      );
+      wide = omega (arith, c.div_ceil.ensures);
+      rest = omega (arith, sets_fit c.args.words.now g r, c.requires.2, c.div_ceil.ensures);
+      spare = omega (arith, c.requires.2, c.div_ceil.ensures);
     }

@@ -1,24 +1,33 @@
-use Rattle.std.proofs.Common.{ℕ, ◌*◌, length, sym, ap, ◌∙◌, arith}
+use Rattle.std.proofs.Common.{ℕ, ◌*◌, length, ap, ◌∙◌, subst, arith}
+use Rattle.endless.specs.Games.{Game}
+use Rattle.endless.specs.Says.{side, goes}
+use Rattle.endless.specs.Sets.{whole}
+use Rattle.endless.specs.Subgames.{Solves}
 use Rattle.endless.proofs.Reading.{places_are}
-use Rattle.endless.proofs.Layouts.{first_room, filled_solved, filled_subgame, filled_out}
+use Rattle.endless.proofs.Layouts.{laid_reads, first_room, filled_solved, filled_subgame}
+use Rattle.endless.proofs.View.{playable}
 use Rattle.endless.proofs.layout.solve_game.Goals as goal
 
-pub level_by_parts-requires : goal.level_by_parts-requires
-level_by_parts-requires c =
+pub level_by_parts-requires-clause-room : goal.level_by_parts-requires-clause-room
+level_by_parts-requires-clause-room c =
     let p = c.requires in
-    let laid = c.lay_out-queue.ensures p.0 p.1 in
-    record {
-      room = (p.0, laid.graphs, first_room c.lay_out-queue.result _ _ p.1 laid p.2 (c.split_at_mut-sets.ensures.front_len ∙ ap (λ (k : ℕ). k * length c.lay_out-queue.result.all.now) (c.levels.ensures p.0 p.1)));
-      counted = places_are c.args.words.now p.0 p.1 ∙ sym laid.many;
-      covers = λ h. absurd (omega arith);
-      inside = λ j h. absurd (omega arith);
-    }
+    let laid = c.lay_out-graph.result in
+    let reads = laid_reads laid p.1 (c.lay_out-graph.ensures p.0 p.1) in
+    first_room laid _ _ reads (c.lay_out-graph.ensures laid.graph reads)
+    (omega (arith, places_are c.args.words.now p.0 p.1, places_are c.args.words.now laid.graph reads, p.2))
+    (c.split_at_mut-sets.ensures.front_len ∙ ap (λ (k : ℕ). k * length laid.all.now) (c.levels.ensures laid.graph reads))
 
-pub returns : goal.returns
-returns c = record {
-  frame = λ g r n h. c.level_by_parts.ensures.frame n (filled_out g c.lay_out-queue.result.all.now (c.lay_out-queue.ensures g r).are n h);
-  solves = λ g r.
-      let laid = c.lay_out-queue.ensures g r in
-      let all = c.lay_out-queue.result.all.now in
-      filled_solved g all laid.are c.level_by_parts.new.out (c.level_by_parts.ensures.solves g laid.graphs (filled_subgame g all laid.are r));
-}
+pub level_by_parts-requires-clause-playable : goal.level_by_parts-requires-clause-playable
+level_by_parts-requires-clause-playable c =
+    let p = c.requires in
+    playable (laid_reads c.lay_out-graph.result p.1 (c.lay_out-graph.ensures p.0 p.1))
+
+pub returns-clause-solves : goal.returns-clause-solves
+returns-clause-solves c = λ g r.
+    let laid = c.lay_out-graph.result in
+    let out = c.level_by_parts.new.out in
+    let is = c.lay_out-graph.ensures g r in
+    let reads = laid_reads laid r is in
+    let are = (c.lay_out-graph.ensures laid.graph reads).are in
+    subst (λ (g : Game). Solves g (whole g) (side out) (goes out)) is.is
+    (filled_solved laid.graph laid.all.now are out (c.level_by_parts.ensures.solves (filled_subgame laid.graph laid.all.now are reads)))

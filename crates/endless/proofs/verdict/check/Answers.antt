@@ -1,16 +1,17 @@
-use Rattle.std.proofs.Common.{length, sym, arith}
-use Rattle.std.proofs.lemmas.Bool.{leb-true}
+use Rattle.std.proofs.Common.{length, arith}
+use Rattle.std.proofs.lemmas.Result.{err_from_is_err_and}
 use Rattle.endless.proofs.Reading.{places_are}
 use Rattle.endless.proofs.Checks.{wrong_checked, right_checked, solves_answer}
 use Rattle.endless.proofs.verdict.check.Goals as goal
 
-pub returns-in-Some : goal.returns-in-Some
-returns-in-Some c =
-    let g = c.if-not-is_game.ensures.says.0 tt in
-    wrong_checked c.args.words.now (length c.args.work.now) c.args.answer.now g.0 c.in-Some.reason (leb-true _ _ (sym c.if-not-is_enough.ensures)) g.1 (c.in-Some.ensures g.0 g.1)
+pub returns-in_err-check_game : goal.returns-in_err-check_game
+returns-in_err-check_game c =
+    let a = c.in_ok-accept.ensures in
+    let p = err_from_is_err_and c.from_residual-in_err-check_game.result c.from_residual-in_err-check_game.ensures.1 in
+    rw (p.1, p.2) (wrong_checked c.args.words.now (length c.args.work.now) c.args.answer.now a c.in_err-check_game.field-0.0 (c.in_err-check_game.ensures a.1.0 a.1.1))
 
-pub returns-in-None : goal.returns-in-None
-returns-in-None c =
-    let g = c.if-not-is_game.ensures.says.0 tt in
-    right_checked c.args.words.now (length c.args.work.now) c.args.answer.now g.0 (leb-true _ _ (sym c.if-not-is_enough.ensures)) g.1
-    (solves_answer g.1 (omega (arith, c.in-Enough.ensures, places_are c.args.words.now g.0 g.1)) (c.in-None.ensures g.0 g.1))
+pub returns : goal.returns
+returns c =
+    let a = c.in_ok-accept.ensures in
+    right_checked c.args.words.now (length c.args.work.now) c.args.answer.now a
+    (solves_answer a.1.1 (omega (arith, c.in_ok-out_room.ensures, places_are c.args.words.now a.1.0 a.1.1)) (c.in_ok-check_game.ensures a.1.0 a.1.1))

@@ -1,22 +1,12 @@
-use Rattle.std.proofs.Common.{◌+◌, ltb, get_or, sym, ap, ◌∙◌, arith}
-use Rattle.std.proofs.lemmas.Bool.{lt-ltb, le-ltb}
-use Rattle.endless.proofs.CountLaws.{count_zero, count_le, count_more_yes, count_more_no}
+use Rattle.std.proofs.Common.{ltb, ◌∙◌, rules, tests}
+use Rattle.std.proofs.lemmas.List.Sums.{length-filter}
+use Rattle.std.proofs.lemmas.Iterator.{YieldsList-from_slice}
+use Rattle.std.proofs.lemmas.Iterator.Consumers.{YieldsList-from_filter, count_from_yields_List}
+use Rattle.endless.proofs.CountLaws.{counted_by}
 use Rattle.endless.proofs.weights.different.Goals as goal
-use Rattle.endless.proofs.weights.different.Goals.{then-count-gt0, else-count-gt0}
 
-pub loop-count-init : goal.loop-count-init
-loop-count-init c = sym (count_zero (λ k. ltb 0 (get_or c.args.counts.now k 0)))
-
-pub overflow_add-different : goal.overflow_add-different
-overflow_add-different c = omega (arith, count_le (λ k. ltb 0 (get_or c.args.counts.now k 0)) c.loop-count.count-index)
-
-pub loop-count-preserved : goal.loop-count-preserved
-loop-count-preserved c =
-    elim c.if-count-gt0.branch [
-      | then-count-gt0 w ↦
-          w.different-is ∙ ap (λ n. n + 1) c.loop-count.invariant
-          ∙ sym (count_more_yes (λ k. ltb 0 (get_or c.args.counts.now k 0)) c.loop-count.count-index (lt-ltb 0 _ w.if-count-gt0.true))
-      | else-count-gt0 w ↦
-          w.different-is ∙ c.loop-count.invariant
-          ∙ sym (count_more_no (λ k. ltb 0 (get_or c.args.counts.now k 0)) c.loop-count.count-index (le-ltb 0 _ w.if-count-gt0.false))
-    ]
+pub returns : goal.returns
+returns c =
+    count_from_yields_List c.filter.result _ c.count.ensures.ran
+    (YieldsList-from_filter _ (λ x. ltb 0 x) (YieldsList-from_slice c.args.counts.now cc) c.filter.ensures.closure (λ x r q k. search (rules, tests)))
+    ∙ length-filter (λ x. ltb 0 x) c.args.counts.now ∙ counted_by c.args.counts.now

@@ -1,22 +1,18 @@
-use Rattle.std.proofs.Common.{sym, ◌∙◌, subst, arith}
-use Rattle.endless.specs.Graph.{Reading}
+use Rattle.std.proofs.Common.{length, ap, arith}
 use Rattle.endless.proofs.PositionLaws.{positions_within}
-use Rattle.endless.proofs.Reading.{here}
+use Rattle.endless.proofs.Reading.{some_head, own_head}
+use Rattle.endless.proofs.View.{playable, shown, start_of}
 use Rattle.endless.proofs.graph.Places.head.Goals as goal
 
 pub position-at-requires : goal.position-at-requires
-position-at-requires c = positions_within c.args.self.low.now c.args.self.high.now c.args.n (omega (arith, c.requires.1, c.requires.2.long))
+position-at-requires c = positions_within _ _ c.args.n (omega (arith, ap length c.self.view_is))
 
-pub read-requires : goal.read-requires
-read-requires c =
-    omega (
-      arith,
-      (here c.args.self.words.now c.requires.0 c.args.n c.position-at.result c.requires.1
-          (subst (Reading c.args.self.words.now c.requires.0 c.args.n) (sym c.position-at.ensures) (c.requires.2.at c.args.n c.requires.1))).long,
-    )
+pub unreachable-requires : goal.unreachable-requires
+unreachable-requires c =
+    some_head _ _ c.args.n _ c.requires (start_of c.self.view_is c.self.invariant c.requires c.position-at.ensures)
+    (shown c.self.view_is c.self.invariant).reads c.in-None.ensures
 
 pub returns : goal.returns
-returns c = λ g h shows.
-    let this = here c.args.self.words.now g c.args.n c.position-at.result h
-    (subst (Reading c.args.self.words.now g c.args.n) (sym c.position-at.ensures) (shows.at c.args.n h)) in
-    (c.read.ensures.whose ∙ this.owner, c.read.ensures.weight ∙ this.weighs, c.read.ensures.moves ∙ this.many)
+returns c =
+    let own = own_head _ _ c.args.n _ c.requires (start_of c.self.view_is c.self.invariant c.requires c.position-at.ensures) c.in-Some.head c.in-Some.ensures in
+    record { whose = own.0; weight = own.1; moves = own.2; playable = playable (shown c.self.view_is c.self.invariant).reads }

@@ -1,0 +1,12 @@
+use Rattle.std.proofs.Common.{◌≡◌}
+use Rattle.endless.specs.Games.{weight}
+use Rattle.endless.specs.Says.{goes}
+use Rattle.endless.specs.Sides.{number}
+use Rattle.endless.specs.Bits.{members}
+use Rattle.endless.specs.Flaws.{Walk}
+use Rattle.endless.proofs.Scans.{EachBelow}
+use Rattle.endless.proofs.claim.Claim.search_each.Given as goal
+
+abbrev pub invariant-loop-place : goal.invariant-loop-place
+invariant-loop-place l =
+    (l.place-iterator.set.now ≡ l.self.set.now) × EachBelow (members l.self.set.now) (λ n. weight l.self.graph.now n ≡ l.heaviest → Walk l.self.graph.now (members l.self.set.now) (number l.self.side) (goes l.self.answer.now) l.heaviest n n → ⊥) l.place-iterator.from
