@@ -2,7 +2,7 @@
 use Rattle.std.proofs.Common.{◌≡◌, ℕ, true, false, List, [], ◌∷◌, Ok, Err, codes, Result, refl}
 use Rattle.drawing.specs.declared.refusal.Fault.TheVariants.{Weight, Quote}
 use Rattle.drawing.specs.Form.{pieces, pieces_in, colon, word, wrong}
-use Rattle.drawing.specs.Reading.{lines, reading, Why, faulty, unknown, no_places}
+use Rattle.drawing.specs.Reading.{reading, Why, faulty, unknown, no_places}
 
 abbrev ReadsAs : List ℕ → Result (List (List ℕ) × List ℕ) Why → Type 0
 ReadsAs text answer = reading text ≡ answer
@@ -22,17 +22,17 @@ not_closed = refl
 
 -- two places, CR LF, a move to itself, a place named before its line
 two : ReadsAs (97 ∷ 32 ∷ 48 ∷ 32 ∷ 51 ∷ 58 ∷ 98 ∷ 32 ∷ 97 ∷ 13 ∷ 10 ∷ 98 ∷ 32 ∷ 49 ∷ 32 ∷ 50 ∷ 53 ∷ 53 ∷ 58 ∷ 97 ∷ []) (Ok ((97 ∷ []) ∷ (98 ∷ []) ∷ [], 2 ∷ 0 ∷ 3 ∷ 2 ∷ 1 ∷ 0 ∷ 1 ∷ 255 ∷ 1 ∷ 0 ∷ []))
-unfolding lines pieces pieces_in
+unfolding pieces pieces_in
 two = refl
 
 strange : ReadsAs (97 ∷ 32 ∷ 48 ∷ 32 ∷ 51 ∷ 58 ∷ 98 ∷ []) (Err (unknown 1 (98 ∷ [])))
-unfolding lines pieces pieces_in
+unfolding pieces pieces_in
 strange = refl
 
 too_heavy : ReadsAs (10 ∷ 97 ∷ 32 ∷ 48 ∷ 32 ∷ 50 ∷ 53 ∷ 54 ∷ 58 ∷ 97 ∷ []) (Err (faulty 2 Weight))
-unfolding lines pieces pieces_in
+unfolding pieces pieces_in
 too_heavy = refl
 
 none : ReadsAs (35 ∷ 97 ∷ 10 ∷ []) (Err no_places)
-unfolding lines pieces pieces_in
+unfolding pieces pieces_in
 none = refl

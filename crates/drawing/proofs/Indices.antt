@@ -1,20 +1,14 @@
 -- Where a name stands among the names.
-use Rattle.std.proofs.Common.{◌≡◌, ℕ, zero, suc, ◌<◌, ◌≤◌, Bool, true, false, cond, List, [], ◌∷◌, ◌++◌, length, get_or, is_some, Some, None, Ok, Err, Option, sym, refl, ap, ◌∙◌, arith}
+use Rattle.std.proofs.Common.{◌≡◌, ℕ, zero, suc, ◌<◌, Bool, true, false, cond, ltb, List, [], ◌∷◌, ◌+◌, not, ◌||◌, ◌++◌, is_some, Ok, map, length, get_or, string_bytes, Some, None, Option, String, sym, refl, ap, ◌∙◌, arith}
+use Rattle.std.specs.List.{list_any, position, position_or_len}
 use Rattle.std.specs.Str.{bytes_eq}
 use Rattle.std.proofs.lemmas.Slice.Eq.{bytes_eq-Decides}
-use Rattle.std.proofs.lemmas.Bool.{cond-true, cond-false, lt-ltb, le-ltb}
-use Rattle.drawing.specs.Form.{Entry, Line, place}
-use Rattle.drawing.specs.Reading.{up, index_of, or_unknown, unknown, twice, many_places, add_new, name_line}
-use Rattle.drawing.specs.Passes.{Apart}
-use Rattle.drawing.specs.Table.{Finds}
-
-pub index_none : (x : List ℕ) (names : List (List ℕ)) → Finds names x None → index_of x names ≡ None
-index_none x [] none = refl
-index_none x (y ∷ ys) none = at (bytes_eq y x) refl (index_none x ys (λ i l e. none (suc i) (omega arith) e))
-  where
-    at : (t : Bool) → bytes_eq y x ≡ t → index_of x ys ≡ None → cond t (Some 0) (up (index_of x ys)) ≡ None
-    at true e q = absurd (none 0 (omega arith) ((bytes_eq-Decides y x).0 e))
-    at false e q = ap up q
+use Rattle.std.proofs.lemmas.Bool.{cond-true, cond-false, lt-ltb, le-ltb, ltb-true, ltb-false, or_from}
+use Rattle.indexmap.specs.IndexSet.{insert_key}
+use Rattle.std.specs.String.{string_eq}
+use Rattle.std.proofs.lemmas.List.{length-map, map_push}
+use Rattle.std.proofs.lemmas.Bool.Decides.{same_from_decides}
+use Rattle.drawing.specs.Reading.{up, index_of, add_new}
 
 pub index_some : (x : List ℕ) (names : List (List ℕ)) (i : ℕ) → i < length names → get_or names i [] ≡ x → (j : ℕ) × (index_of x names ≡ Some j)
 index_some x [] i l e = absurd (omega arith)
@@ -25,29 +19,50 @@ index_some x (y ∷ ys) (suc i) l e = at (bytes_eq y x) (index_some x ys i (omeg
     at true q = (0, refl)
     at false q = (suc q.0, ap up q.1)
 
-module _ (n : ℕ) (names : List (List ℕ)) (line : Line) (e : Entry) (x : List ℕ) (holds : line ≡ place e) (is : x ≡ e.named) where
-  named_is : name_line n names line ≡ add_new n names x (index_of x names)
-  named_is = ap (name_line n names) holds ∙ sym (ap (λ y. add_new n names y (index_of y names)) is)
+-- text is compared either way round
+bytes_eq_swap : (a b : List ℕ) → bytes_eq a b ≡ bytes_eq b a
+bytes_eq_swap a b = same_from_decides (bytes_eq a b) (bytes_eq b a) (bytes_eq-Decides a b) ((λ e. sym ((bytes_eq-Decides b a).0 e)), (λ e. (bytes_eq-Decides b a).1 (sym e)))
 
-  pub named_twice : (i : ℕ) → Finds names x (Some i) → name_line n names line ≡ Err (twice n x)
-  named_twice i f = let q = index_some x names i f.0 f.1 in named_is ∙ ap (add_new n names x) q.1
+one_on : (n m : ℕ) (t u : Bool) → ltb n m ≡ u → cond t (Some 0) (up (cond u (Some n) None)) ≡ cond (ltb (cond (not t) (1 + n) 0) (suc m)) (Some (cond (not t) (1 + n) 0)) None
+one_on n m true u e = sym (cond-true _ _ _ (lt-ltb 0 (suc m) (omega arith)))
+one_on n m false true e =
+    let l = ltb-true n m e in
+    let same : 1 + n ≡ suc n = omega arith in
+    sym (cond-true (ltb (1 + n) (suc m)) (Some (1 + n)) None (lt-ltb (1 + n) (suc m) (omega arith)) ∙ ap Some same)
+one_on n m false false e =
+    let l = ltb-false n m e in
+    sym (cond-false (ltb (1 + n) (suc m)) (Some (1 + n)) None (le-ltb (1 + n) (suc m) (omega arith)))
 
-  pub named_full : Finds names x None → 16384 ≤ length names → name_line n names line ≡ Err (many_places n)
-  named_full f l = named_is ∙ ap (add_new n names x) (index_none x names f) ∙ cond-false _ _ _ (le-ltb _ _ l)
+-- the set of names finds the same
+pub index_is_position : {Z : Type 0} (x : List ℕ) (ks : List (String Z)) → index_of x (map string_bytes ks) ≡ position (λ k. bytes_eq x (string_bytes k)) ks
+index_is_position x [] = refl
+index_is_position x (k ∷ ks) =
+    ap (λ t. cond t (Some 0) (up (index_of x (map string_bytes ks)))) (bytes_eq_swap (string_bytes k) x)
+    ∙ ap (λ o. cond (bytes_eq x (string_bytes k)) (Some 0) (up o)) (index_is_position x ks)
+    ∙ one_on (position_or_len (λ k. bytes_eq x (string_bytes k)) ks) (length ks) (bytes_eq x (string_bytes k)) (ltb (position_or_len (λ k. bytes_eq x (string_bytes k)) ks) (length ks)) refl
 
-  pub named_new : Finds names x None → length names < 16384 → name_line n names line ≡ Ok (names ++ (x ∷ []))
-  named_new f l = named_is ∙ ap (add_new n names x) (index_none x names f) ∙ cond-true _ _ _ (lt-ltb _ _ l)
+up_none : (o : Option ℕ) → up o ≡ None → o ≡ None
+up_none None e = refl
+up_none (Some i) e = cc
 
-pub found_some : (names : List (List ℕ)) (x : List ℕ) (r : Option ℕ) → Finds names x r → is_some r ≡ true → (i : ℕ) × Finds names x (Some i)
-found_some names x None f e = absurd (let z : ◌≡◌ {A = ℕ} 0 1 = cc in omega arith)
-found_some names x (Some i) f e = (i, f)
+-- a name that has no index is not in the set
+pub index_absent : {Z : Type 0} (x : List ℕ) (ks : List (String Z)) → index_of x (map string_bytes ks) ≡ None → list_any (λ k. bytes_eq x (string_bytes k)) ks ≡ false
+index_absent x [] e = refl
+index_absent x (k ∷ ks) e = at (λ h. index_absent x ks h) (bytes_eq (string_bytes k) x) refl e
+  where
+    at : (index_of x (map string_bytes ks) ≡ None → list_any (λ k. bytes_eq x (string_bytes k)) ks ≡ false) → (t : Bool) → bytes_eq (string_bytes k) x ≡ t → cond t (Some 0) (up (index_of x (map string_bytes ks))) ≡ None → (bytes_eq x (string_bytes k) || list_any (λ k. bytes_eq x (string_bytes k)) ks) ≡ false
+    at rec true q h = cc
+    at rec false q h = or_from _ _ (bytes_eq_swap x (string_bytes k) ∙ q) (rec (up_none _ h))
 
-pub found_none : (names : List (List ℕ)) (x : List ℕ) (r : Option ℕ) → Finds names x r → is_some r ≡ false → Finds names x None
-found_none names x None f e = f
-found_none names x (Some i) f e = absurd (let z : ◌≡◌ {A = ℕ} 0 1 = cc in omega arith)
+none_from : (o : Option ℕ) → is_some o ≡ false → o ≡ None
+none_from None e = refl
+none_from (Some i) e = cc
 
-pub index_own : (x : List ℕ) (names : List (List ℕ)) (i : ℕ) → Apart names → Finds names x (Some i) → index_of x names ≡ Some i
-index_own x names i apart f = ap (λ y. index_of y names) (sym f.1) ∙ apart i f.0
-
-pub unknown_name : (n : ℕ) (names : List (List ℕ)) (x y : List ℕ) → x ≡ y → Finds names x None → or_unknown n y (index_of y names) ≡ Err (unknown n x)
-unknown_name n names x y e f = sym (ap (λ z. or_unknown n z (index_of z names)) e) ∙ ap (or_unknown n x) (index_none x names f)
+-- a name that is not among the others goes behind them
+pub set_added : {Z : Type 0} (n : ℕ) (names : List (List ℕ)) (ks new : List (String Z)) (k : String Z) → map string_bytes ks ≡ names → length ks < 16384 → is_some (index_of (string_bytes k) names) ≡ false → new ≡ insert_key string_eq ks k → add_new n names (string_bytes k) (index_of (string_bytes k) names) ≡ Ok (map string_bytes new)
+set_added n names ks new k view room none e =
+    let absent : index_of (string_bytes k) names ≡ None = none_from _ none in
+    let there = index_absent (string_bytes k) ks (ap (index_of (string_bytes k)) view ∙ absent) in
+    ap (add_new n names (string_bytes k)) absent
+    ∙ cond-true _ _ _ (lt-ltb (length names) 16384 (omega (arith, ap length view, length-map ks string_bytes)))
+    ∙ ap Ok (ap (λ l. l ++ (string_bytes k ∷ [])) (sym view) ∙ sym (map_push string_bytes ks k) ∙ ap (map string_bytes) (sym (e ∙ cond-false _ _ _ there)))

@@ -2,7 +2,7 @@
 use Rattle.std.proofs.Common.{◌≡◌, ℕ, ◌+◌, ◌≤◌, Bool, List, [], ◌∷◌, ◌++◌, length, Ok, Err, Result, sym, refl, ap, ◌∙◌, append_assoc, arith}
 use Rattle.drawing.specs.declared.refusal.Fault.{Fault}
 use Rattle.std.proofs.lemmas.Bool.{cond-true, le-leb}
-use Rattle.drawing.specs.Form.{Piece, word, pieces, with_name, names_of, Entry, Line, place}
+use Rattle.drawing.specs.Form.{Piece, word, with_name, names_of, Entry, Line, place}
 use Rattle.drawing.specs.Reading.{Why, and_then, index_of, or_unknown, goals, word_line}
 
 -- what is left to write of the moves
@@ -10,9 +10,6 @@ pub record LeftOver (n : ℕ) (names : List (List ℕ)) (old : List ℕ) (ms : L
   pub left : List (List ℕ)
   pub names_left : names_of ps ≡ Ok left
   pub same : goals n names new left ≡ goals n names old ms
-
-abbrev pub ToMove : ℕ → List (List ℕ) → List ℕ → List ℕ → List ℕ → List ℕ → Type 0
-ToMove n names old moves new rest = (ms : List (List ℕ)) → names_of (pieces moves) ≡ Ok ms → LeftOver n names old ms new (pieces rest)
 
 pub first_name : (q : Bool) (w : List ℕ) (ps : List Piece) (ms : List (List ℕ)) → names_of (word q w ∷ ps) ≡ Ok ms → (left : List (List ℕ)) × (names_of ps ≡ Ok left) × (ms ≡ w ∷ left)
 first_name q w ps ms h = at (names_of ps) refl h
@@ -55,6 +52,3 @@ module _ (n : ℕ) (names : List (List ℕ)) (used : ℕ) (old : List ℕ) (line
 
   pub worded_err : (w : Why) → goals n names acc e.goes ≡ Err w → word_line n names used old line ≡ Err w
   worded_err w h = word_is ∙ ap (λ x. and_then x (λ more. Ok (used + length e.goes, more))) h
-
-  pub worded_ok : (new : List ℕ) (m : ℕ) → goals n names acc e.goes ≡ Ok new → length e.goes ≡ m → word_line n names used old line ≡ Ok (used + m, new)
-  worded_ok new m h q = word_is ∙ ap (λ x. and_then x (λ more. Ok (used + length e.goes, more))) h ∙ ap (λ k. Ok (used + k, new)) q

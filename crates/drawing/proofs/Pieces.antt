@@ -1,9 +1,10 @@
 -- The pieces of a line come one after the other.
 use Rattle.std.proofs.Common.{◌≡◌, ℕ, zero, suc, ◌+◌, ◌-◌, ◌<◌, ◌≤◌, Bool, true, false, cond, eqb, ltb, List, [], ◌∷◌, length, take, drop, Some, None, Option, refl, ap, ◌∙◌, subst, arith, length-drop}
+use Rattle.std.specs.List.{prefix_len, position_or_len}
 use Rattle.std.proofs.lemmas.Bool.{eqb-false}
 use Rattle.drawing.specs.declared.refusal.Fault.{Fault}
 use Rattle.drawing.specs.declared.refusal.Fault.TheVariants.{LongName, EmptyName, Dash, Quote, Control}
-use Rattle.drawing.specs.Form.{until, stops, dark, closing, plain, Piece, Next, no_more, next, colon, word, wrong, fault, apart, dash, bare, control_within, quoted_at, quoted, next_dark, next_piece, onward, pieces_in, pieces}
+use Rattle.drawing.specs.Form.{stops, blank, closing, plain, Piece, Next, no_more, next, colon, word, wrong, fault, apart, dash, bare, control_within, quoted_at, quoted, next_dark, next_piece, onward, pieces_in, pieces}
 
 -- less than n bytes are left
 pub data Short (n : ℕ) : Next → Type 0 where
@@ -30,13 +31,13 @@ take_some zero bs some h = absurd (some refl)
 take_some (suc k) bs some h = omega arith
 
 short_bare : (bs : List ℕ) → 0 < length bs → Short (length bs) (bare bs)
-short_bare bs h = at (take (until stops bs) bs) refl (eqb (length (take (until stops bs) bs)) 0) refl
+short_bare bs h = at (take (position_or_len stops bs) bs) refl (eqb (length (take (position_or_len stops bs) bs)) 0) refl
   where
-    at : (w : List ℕ) → w ≡ take (until stops bs) bs → (t : Bool) → eqb (length w) 0 ≡ t → Short (length bs) (cond t (fault Quote) (cond (apart (drop (until stops bs) bs)) (cond (control_within false w) (fault Control) (cond (dash w) (fault Dash) (cond (ltb 64 (length w)) (fault LongName) (next (word false w) (drop (until stops bs) bs))))) (fault Quote)))
+    at : (w : List ℕ) → w ≡ take (position_or_len stops bs) bs → (t : Bool) → eqb (length w) 0 ≡ t → Short (length bs) (cond t (fault Quote) (cond (apart (drop (position_or_len stops bs) bs)) (cond (control_within false w) (fault Control) (cond (dash w) (fault Dash) (cond (ltb 64 (length w)) (fault LongName) (next (word false w) (drop (position_or_len stops bs) bs))))) (fault Quote)))
     at w q true e = less h
     at w q false e =
-        let left : length (drop (until stops bs) bs) < length bs = rw (length-drop (until stops bs) bs) (take_some (until stops bs) bs (λ z. eqb-false _ 0 e (ap length q ∙ z)) h) in
-        short_bare_ways (length bs) h (word false w) (drop (until stops bs) bs) left (apart (drop (until stops bs) bs)) (control_within false w) (dash w) (ltb 64 (length w))
+        let left : length (drop (position_or_len stops bs) bs) < length bs = rw (length-drop (position_or_len stops bs) bs) (take_some (position_or_len stops bs) bs (λ z. eqb-false _ 0 e (ap length q ∙ z)) h) in
+        short_bare_ways (length bs) h (word false w) (drop (position_or_len stops bs) bs) left (apart (drop (position_or_len stops bs) bs)) (control_within false w) (dash w) (ltb 64 (length w))
 
 short_quoted_at : (bs : List ℕ) (o : Option ℕ) → Short (suc (length bs)) (quoted_at bs o)
 short_quoted_at bs None = less (omega arith)
@@ -60,7 +61,7 @@ short_more m n (next p rest) h (less l) = less (omega arith)
 
 -- each piece has a byte at least
 pub short_next : (bs : List ℕ) → Short (length bs) (next_piece bs)
-short_next bs = short_more (length (drop (until dark bs) bs)) (length bs) (next_piece bs) (rw (length-drop (until dark bs) bs) (omega arith)) (short_dark (drop (until dark bs) bs))
+short_next bs = short_more (length (drop (prefix_len blank bs) bs)) (length bs) (next_piece bs) (rw (length-drop (prefix_len blank bs) bs) (omega arith)) (short_dark (drop (prefix_len blank bs) bs))
 
 short_length : {n : ℕ} {p : Piece} {rest : List ℕ} → Short n (next p rest) → length rest < n
 short_length (less l) = l
@@ -93,3 +94,16 @@ pieces_next (b ∷ bs) p rest e = ap (λ x. onward x (λ rest. pieces_in (length
 
 pub pieces_wrong : (bs : List ℕ) (f : Fault) → next_piece bs ≡ next (wrong f) [] → pieces bs ≡ wrong f ∷ []
 pieces_wrong bs f e = pieces_next bs (wrong f) [] e ∙ ap (λ ps. wrong f ∷ ps) (pieces_none [] refl)
+
+pieces_in_few : (n : ℕ) (bs : List ℕ) → length (pieces_in n bs) ≤ n
+unfolding pieces_in
+pieces_in_few zero bs = omega arith
+pieces_in_few (suc n) bs = at (next_piece bs) (λ rest. pieces_in_few n rest)
+  where
+    at : (x : Next) → ((rest : List ℕ) → length (pieces_in n rest) ≤ n) → length (onward x (λ rest. pieces_in n rest)) ≤ suc n
+    at no_more f = omega arith
+    at (next p rest) f = let l = f rest in omega arith
+
+pub pieces_few : (bs : List ℕ) → length (pieces bs) ≤ length bs
+unfolding pieces
+pieces_few bs = pieces_in_few (length bs) bs

@@ -1,8 +1,9 @@
 -- A name that is written is read back.
-use Rattle.std.proofs.Common.{◌≡◌, ℕ, suc, ◌+◌, ◌<◌, Bool, true, false, cond, not, ◌&&◌, ◌||◌, eqb, ltb, List, [], ◌∷◌, ◌++◌, length, take, drop, is_ok, IfOk, Some, Ok, Err, Result, sym, refl, ap, ◌∙◌, subst, ⊎_elim, arith}
+use Rattle.std.proofs.Common.{◌≡◌, ℕ, suc, ◌+◌, ◌<◌, Bool, true, false, cond, not, ◌&&◌, ◌||◌, eqb, ltb, List, [], ◌∷◌, ◌++◌, length, take, drop, IfOk, Some, Ok, Err, Result, sym, refl, ap, ◌∙◌, subst, ⊎_elim, arith}
 use Rattle.std.proofs.lemmas.List.{take_at, drop_all, length_push, take_all}
-use Rattle.std.proofs.lemmas.Bool.{cond-true, cond-false, or_cases, or_parts, or_from, eqb-true, ne_eqb, eq-eqb, and_parts, not-true, le-ltb, lt-ltb, both_ways}
-use Rattle.drawing.specs.Form.{until, blank, dark, ends, stops, control, control_within, astray, also, closing, plain, word, next, dash, bare_word, bare, sized, quoted_word, quoted_at, next_dark, next_piece}
+use Rattle.std.specs.List.{prefix_len, position_or_len}
+use Rattle.std.proofs.lemmas.Bool.{cond-false, or_cases, or_parts, or_from, eqb-true, ne_eqb, and_parts, not-true, le-ltb, lt-ltb, both_ways}
+use Rattle.drawing.specs.Form.{blank, ends, stops, control, control_within, astray, also, closing, plain, word, next, dash, bare_word, bare, sized, quoted_word, quoted_at, next_dark, next_piece}
 use Rattle.drawing.specs.Spelling.{special, escaped, plainly, spelling, IsName, Means}
 use Rattle.drawing.proofs.Pieces.{pieces_next, pieces_none}
 
@@ -60,15 +61,15 @@ quoted_back n is =
     ∙ cond-false _ _ _ (le-ltb 64 (length n) is.short)
 
 -- bare
-free : (b : ℕ) → stops b ≡ false → (dark b ≡ true) × (eqb b 35 ≡ false) × (eqb b 58 ≡ false) × (eqb b 34 ≡ false)
+free : (b : ℕ) → stops b ≡ false → (blank b ≡ false) × (eqb b 35 ≡ false) × (eqb b 58 ≡ false) × (eqb b 34 ≡ false)
 free b e =
     let p = or_parts (ends b) (eqb b 34 || eqb b 92) e in
     let q = or_parts (blank b) (eqb b 58 || eqb b 35) p.0 in
     let r = or_parts (eqb b 58) (eqb b 35) q.1 in
     let s = or_parts (eqb b 34) (eqb b 92) p.1 in
-    (ap not q.0, r.1, r.0, s.0)
+    (q.0, r.1, r.0, s.0)
 
-bare_back : (n : List ℕ) → IsName n → until stops n ≡ length n → dash n ≡ false → bare n ≡ next (word false n) []
+bare_back : (n : List ℕ) → IsName n → position_or_len stops n ≡ length n → dash n ≡ false → bare n ≡ next (word false n) []
 bare_back n is all named =
     (λ i. bare_word (take (all i) n) (drop (all i) n))
     ∙ (λ i. bare_word (take_all (length n) n (omega arith) i) (drop_all (length n) n (omega arith) i))
@@ -77,18 +78,18 @@ bare_back n is all named =
     ∙ cond-false _ _ _ named
     ∙ cond-false _ _ _ (le-ltb 64 (length n) is.short)
 
-first_free : (b : ℕ) (bs : List ℕ) → until stops (b ∷ bs) ≡ suc (length bs) → stops b ≡ false
+first_free : (b : ℕ) (bs : List ℕ) → position_or_len stops (b ∷ bs) ≡ suc (length bs) → stops b ≡ false
 first_free b bs e = at (stops b) e
   where
-    at : (t : Bool) → cond t 0 (suc (until stops bs)) ≡ suc (length bs) → t ≡ false
+    at : (t : Bool) → cond (not t) (1 + position_or_len stops bs) 0 ≡ suc (length bs) → t ≡ false
     at true q = absurd (omega arith)
     at false q = refl
 
-plain_back : (n : List ℕ) → IsName n → until stops n ≡ length n → dash n ≡ false → next_piece n ≡ next (word false n) []
+plain_back : (n : List ℕ) → IsName n → position_or_len stops n ≡ length n → dash n ≡ false → next_piece n ≡ next (word false n) []
 plain_back [] is all named = absurd (omega (arith, is.some))
 plain_back (b ∷ bs) is all named =
     let f = free b (first_free b bs all) in
-    ap (λ m. next_dark (drop m (b ∷ bs))) (cond-true (dark b) 0 (suc (until dark bs)) f.0)
+    ap (λ m. next_dark (drop m (b ∷ bs))) (cond-false (blank b) (1 + prefix_len blank bs) 0 f.0)
     ∙ cond-false _ _ _ f.1 ∙ cond-false _ _ _ f.2 ∙ cond-false _ _ _ f.3
     ∙ bare_back (b ∷ bs) is all named
 
@@ -100,26 +101,10 @@ means n bs e is = subst (Means n) (sym e) (at (plainly n) refl)
   where
     at : (t : Bool) → plainly n ≡ t → Means n (cond t n (34 ∷ (escaped n ++ (34 ∷ []))))
     at true q =
-        let p = and_parts (not (eqb (length n) 0)) (eqb (until stops n) (length n) && not (dash n)) q in
-        let r = and_parts (eqb (until stops n) (length n)) (not (dash n)) p.1 in
-        alone n n false (plain_back n is (eqb-true (until stops n) (length n) r.0) (not-true (dash n) r.1))
+        let p = and_parts (not (eqb (length n) 0)) (eqb (position_or_len stops n) (length n) && not (dash n)) q in
+        let r = and_parts (eqb (position_or_len stops n) (length n)) (not (dash n)) p.1 in
+        alone n n false (plain_back n is (eqb-true (position_or_len stops n) (length n) r.0) (not-true (dash n) r.1))
     at false q = alone (34 ∷ (escaped n ++ (34 ∷ []))) n true (quoted_back n is)
-
-pub plainly_is : (n : List ℕ) → (length n ≡ 0 → ⊥) → until stops n ≡ length n → (r : Bool) → r ≡ not (dash n) → r ≡ plainly n
-plainly_is n some all r e =
-    e
-    ∙ sym (ap (λ t. not t && (eqb (until stops n) (length n) && not (dash n))) (ne_eqb (length n) 0 some) ∙ ap (λ t. t && not (dash n)) (eq-eqb (until stops n) (length n) all))
-
-pub made_pushed : {E : Type 0} (r : Result (Unit {0}) E) (old new add whole : List ℕ) → new ≡ cond (is_ok r) (old ++ add) old → old ++ add ≡ whole → IfOk r (λ _. new ≡ whole)
-made_pushed (Ok u) old new add whole p q = p ∙ q
-made_pushed (Err e) old new add whole p q = tt
-
-module _ (n : List ℕ) where
-  pub spelt_bare : true ≡ plainly n → n ≡ spelling n
-  spelt_bare e = sym (cond-true _ _ _ (sym e))
-
-  pub spelt_quoted : (a b c d : List ℕ) → false ≡ plainly n → a ≡ [] → b ≡ a ++ (34 ∷ []) → c ≡ b ++ escaped n → d ≡ c ++ (34 ∷ []) → d ≡ spelling n
-  spelt_quoted a b c d e p q r s = s ∙ ap (λ l. l ++ (34 ∷ [])) (r ∙ ap (λ l. l ++ escaped n) (q ∙ ap (λ l. l ++ (34 ∷ [])) p)) ∙ sym (cond-false _ _ _ (sym e))
 
 pub made_means : {S E : Type 0} (f : S → List ℕ) (n : List ℕ) (r : Result S E) → IfOk r (λ s. f s ≡ spelling n) → IsName n → IfOk r (λ s. Means n (f s))
 made_means f n (Ok s) h is = means n (f s) h is

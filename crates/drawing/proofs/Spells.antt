@@ -46,9 +46,6 @@ module _ (whole name rest : List ℕ) (e : Bool) (s : name ++ plain e rest ≡ w
     pub plain_passed : f ≡ true → name ++ plain f more ≡ whole
     plain_passed n = ap (λ t. name ++ plain t more) n ∙ ap (λ l. name ++ l) (sym (ap (plain e) took ∙ plain_char e c more ∙ cond-true _ _ _ (sym is ∙ n))) ∙ s
 
-  pub plain_over : length rest ≡ 0 → name ≡ whole
-  plain_over z = sym (append-nil name) ∙ ap (λ l. name ++ l) (sym (ap (plain e) (nil_from_length rest z))) ∙ s
-
 escaped_high : (xs r : List ℕ) → High xs → escaped (xs ++ r) ≡ xs ++ escaped r
 escaped_high [] r h = refl
 escaped_high (x ∷ xs) r h =

@@ -1,36 +1,11 @@
 -- Where a line is cut into tokens.
-use Rattle.std.proofs.Common.{◌≡◌, ℕ, zero, suc, ◌+◌, ◌<◌, ◌≤◌, Bool, true, false, cond, eqb, List, [], ◌∷◌, length, get_or, take, drop, Some, None, IsUtf8, Option, sym, refl, ap, ◌∙◌, subst, ⊎_elim, arith}
+use Rattle.std.proofs.Common.{◌≡◌, ℕ, zero, suc, ◌+◌, ◌<◌, Bool, true, false, cond, not, eqb, List, [], ◌∷◌, length, get_or, Some, None, IsUtf8, Option, sym, refl, subst, ⊎_elim, arith}
 use Rattle.std.specs.Str.{IsCharBoundary}
-use Rattle.std.proofs.lemmas.Bool.{cond-true, cond-false, or_cases, eqb-true, le-ltb, lt-ltb, not-false, and_parts, ne_eqb}
+use Rattle.std.specs.List.{prefix_len, position_or_len}
+use Rattle.std.proofs.lemmas.List.Sums.{prefix_len-le-length, prefix_len_passes, passes_at_first}
+use Rattle.std.proofs.lemmas.Bool.{or_cases, eqb-true, and_parts}
 use Rattle.std.proofs.lemmas.Str.{IsCharBoundary-after_ascii, IsCharBoundary-start}
-use Rattle.drawing.specs.Form.{until, blank, ends, stops, dark, control_within, next, word, wrong, apart, dash, bare_word, bare, astray, closes, escapes, also, closing, next_dark, next_piece}
-use Rattle.drawing.specs.declared.refusal.Fault.TheVariants.{LongName}
-
-module _ (p : ℕ → Bool) where
-  pub until_le : (bs : List ℕ) → until p bs ≤ length bs
-  until_le [] = omega arith
-  until_le (b ∷ bs) = le b bs (p b) (until_le bs)
-    where
-      le : (b : ℕ) (bs : List ℕ) (t : Bool) → until p bs ≤ length bs → cond t 0 (suc (until p bs)) ≤ suc (length bs)
-      le b bs true h = omega arith
-      le b bs false h = omega arith
-
-  pub until_before : (bs : List ℕ) (k : ℕ) → k < until p bs → p (get_or bs k 0) ≡ false
-  until_before [] k h = absurd (omega arith)
-  until_before (b ∷ bs) k h = before b bs (p b) refl k h (until_before bs)
-    where
-      before : (b : ℕ) (bs : List ℕ) (t : Bool) → p b ≡ t → (k : ℕ) → k < cond t 0 (suc (until p bs)) → ((k : ℕ) → k < until p bs → p (get_or bs k 0) ≡ false) → p (get_or (b ∷ bs) k 0) ≡ false
-      before b bs true e k h on = absurd (omega arith)
-      before b bs false e zero h on = e
-      before b bs false e (suc k) h on = on k (omega arith)
-
-  pub until_at : (bs : List ℕ) → until p bs < length bs → p (get_or bs (until p bs) 0) ≡ true
-  until_at [] h = absurd (omega arith)
-  until_at (b ∷ bs) h = at b bs (p b) refl h (until_at bs)
-    where
-      at : (b : ℕ) (bs : List ℕ) (t : Bool) → p b ≡ t → cond t 0 (suc (until p bs)) < suc (length bs) → (until p bs < length bs → p (get_or bs (until p bs) 0) ≡ true) → p (get_or (b ∷ bs) (cond t 0 (suc (until p bs))) 0) ≡ true
-      at b bs true e h on = e
-      at b bs false e h on = on (omega arith)
+use Rattle.drawing.specs.Form.{blank, ends, stops, astray, closes, escapes, also, closing}
 
 -- bytes that pass p are ASCII
 abbrev pub Low : (ℕ → Bool) → Type 0
@@ -48,32 +23,21 @@ low_ends b e = ⊎_elim (λ h. low_blank b h) (λ h. ⊎_elim (λ k. low_eqb 58 
 pub low_stops : Low stops
 low_stops b e = ⊎_elim (λ h. low_ends b h) (λ h. ⊎_elim (λ k. low_eqb 34 b (omega arith) k) (λ k. low_eqb 92 b (omega arith) k) (or_cases _ _ h)) (or_cases _ _ e)
 
--- a text may be cut before an ASCII byte
-pub cut_at : (p : ℕ → Bool) → Low p → (bs : List ℕ) (n : ℕ) → n ≡ until p bs → IsCharBoundary bs n
-cut_at p low bs n e = subst (IsCharBoundary bs) (sym e) (until_le p bs, λ h wide. absurd (omega (arith, low _ (until_at p bs h))))
-
-module _ (bs w rest : List ℕ) (n : ℕ) (is : n ≡ until stops bs) (front : w ≡ take n bs) (back : rest ≡ drop n bs) where
-  bare_is : bare bs ≡ bare_word w rest
-  bare_is = sym (λ i. bare_word (take (is i) bs) (drop (is i) bs)) ∙ sym (λ i. bare_word (front i) (back i))
-
-  module _ (o : length w ≡ 0 → ⊥) (a : apart rest ≡ true) (k : control_within false w ≡ false) (d : dash w ≡ false) where
-    pub bare_long : 64 < length w → bare bs ≡ next (wrong LongName) []
-    bare_long l = bare_is ∙ cond-false _ _ _ (ne_eqb _ 0 o) ∙ cond-true _ _ _ a ∙ cond-false _ _ _ k ∙ cond-false _ _ _ d ∙ cond-true _ _ _ (lt-ltb _ _ l)
-
-    pub bare_good : length w ≤ 64 → bare bs ≡ next (word false w) rest
-    bare_good l = bare_is ∙ cond-false _ _ _ (ne_eqb _ 0 o) ∙ cond-true _ _ _ a ∙ cond-false _ _ _ k ∙ cond-false _ _ _ d ∙ cond-false _ _ _ (le-ltb _ _ l)
+-- a text may be cut before the first byte that ends a bare word
+pub cut_stop : (bs : List ℕ) (n : ℕ) → n ≡ position_or_len stops bs → IsCharBoundary bs n
+cut_stop bs n e = subst (IsCharBoundary bs) (sym e) (prefix_len-le-length (λ b. not (stops b)) bs, λ h wide. absurd (let low : get_or bs (position_or_len stops bs) 0 < 128 = low_stops _ (passes_at_first stops bs 0 h) in omega arith))
 
 -- a text may be cut behind its blanks
-pub cut_dark : (bs : List ℕ) (n : ℕ) → IsUtf8 bs → n ≡ until dark bs → IsCharBoundary bs n
-cut_dark bs n u e = subst (IsCharBoundary bs) (sym e) (cut (until dark bs) refl)
+pub cut_blank : (bs : List ℕ) (n : ℕ) → IsUtf8 bs → n ≡ prefix_len blank bs → IsCharBoundary bs n
+cut_blank bs n u e = subst (IsCharBoundary bs) (sym e) (cut (prefix_len blank bs) refl)
   where
-    cut : (k : ℕ) → k ≡ until dark bs → IsCharBoundary bs (until dark bs)
+    cut : (k : ℕ) → k ≡ prefix_len blank bs → IsCharBoundary bs (prefix_len blank bs)
     cut zero q = subst (IsCharBoundary bs) q (IsCharBoundary-start bs u)
     cut (suc k) q =
-        let last : k < until dark bs = omega arith in
-        let low : get_or bs k 0 < 128 = low_blank _ (not-false _ (until_before dark bs k last)) in
-        let more : k + 1 ≡ until dark bs = omega arith in
-        subst (IsCharBoundary bs) more (IsCharBoundary-after_ascii bs k u (omega (arith, until_le dark bs)) low)
+        let last : k < prefix_len blank bs = omega arith in
+        let low : get_or bs k 0 < 128 = low_blank _ (prefix_len_passes blank bs k 0 last) in
+        let more : k + 1 ≡ prefix_len blank bs = omega arith in
+        subst (IsCharBoundary bs) more (IsCharBoundary-after_ascii bs k u (omega (arith, prefix_len-le-length blank bs)) low)
 
 closing_also : (o : Option ℕ) (n : ℕ) → also o ≡ Some n → (k : ℕ) × (o ≡ Some k) × (n ≡ suc k)
 closing_also None n e = absurd (let z : ◌≡◌ {A = ℕ} 0 1 = cc in omega arith)
@@ -101,11 +65,3 @@ module _ (bs : List ℕ) (n : ℕ) (u : IsUtf8 bs) (is : closing false bs ≡ So
 
 pub cut_first : (bs : List ℕ) (m : ℕ) → IsUtf8 bs → (length bs ≡ 0 → ⊥) → get_or bs 0 0 ≡ m → m < 128 → IsCharBoundary bs 1
 cut_first bs m u some e low = IsCharBoundary-after_ascii bs 0 u (omega arith) (omega arith)
-
-dark_bare : (bs : List ℕ) → (length bs ≡ 0 → ⊥) → (get_or bs 0 0 ≡ 35 → ⊥) → (get_or bs 0 0 ≡ 58 → ⊥) → (get_or bs 0 0 ≡ 34 → ⊥) → next_dark bs ≡ bare bs
-dark_bare [] some x y z = absurd (some refl)
-dark_bare (b ∷ bs) some x y z = cond-false _ _ _ (ne_eqb b 35 x) ∙ cond-false _ _ _ (ne_eqb b 58 y) ∙ cond-false _ _ _ (ne_eqb b 34 z)
-
--- a word that begins with no mark is bare
-pub next_bare : (line rest : List ℕ) (n : ℕ) → n ≡ until dark line → rest ≡ drop n line → (length rest ≡ 0 → ⊥) → (get_or rest 0 0 ≡ 35 → ⊥) → (get_or rest 0 0 ≡ 58 → ⊥) → (get_or rest 0 0 ≡ 34 → ⊥) → next_piece line ≡ bare rest
-next_bare line rest n e q some x y z = sym (ap next_dark (q ∙ ap (λ m. drop m line) e)) ∙ dark_bare rest some x y z

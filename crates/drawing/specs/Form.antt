@@ -1,24 +1,14 @@
 -- The form of a drawing: the lines of a text, the tokens of a line, the row that they make.
 use Rattle.std.specs.Prelude.{ℕ, zero, suc, ◌+◌, ◌-◌, ◌*◌, Bool, true, false, cond, not, ◌&&◌, ◌||◌, List, [], ◌∷◌, length, take, drop, Some, None, Ok, Err, Option, Result, ◌==◌, nat_lt}
 use Rattle.std.specs.Char.{is_ascii_digit}
+use Rattle.std.specs.List.{prefix_len, position_or_len}
 use Rattle.std.specs.Str.{bytes_eq}
 use Rattle.drawing.specs.declared.refusal.Fault.{Fault}
 use Rattle.drawing.specs.declared.refusal.Fault.TheVariants.{Form, Side, Weight, NoMoves, LongName, EmptyName, Dash, Quote, Control}
 
--- how many bytes stand before the first that passes p
-abbrev pub until : (ℕ → Bool) → List ℕ → ℕ
-until p [] = 0
-until p (b ∷ bs) = cond (p b) 0 (suc (until p bs))
-
-abbrev pub feed : ℕ → Bool
-feed b = b == 10
-
 -- blanks and tabs separate words
 abbrev pub blank : ℕ → Bool
 blank b = b == 32 || b == 9
-
-abbrev pub dark : ℕ → Bool
-dark b = not (blank b)
 
 -- what ends a word: a blank, a tab, `:` or `#`
 abbrev pub ends : ℕ → Bool
@@ -91,7 +81,7 @@ bare_word w rest =
     cond (length w == 0) (fault Quote) (cond (apart rest) (cond (control_within false w) (fault Control) (cond (dash w) (fault Dash) (cond (nat_lt 64 (length w)) (fault LongName) (next (word false w) rest)))) (fault Quote))
 
 abbrev pub bare : List ℕ → Next
-bare bs = bare_word (take (until stops bs) bs) (drop (until stops bs) bs)
+bare bs = bare_word (take (position_or_len stops bs) bs) (drop (position_or_len stops bs) bs)
 
 -- a word in quotes: no control character, 1 to 64 bytes
 abbrev pub sized : List ℕ → List ℕ → Next
@@ -113,7 +103,7 @@ next_dark [] = no_more
 next_dark (b ∷ bs) = cond (b == 35) no_more (cond (b == 58) (next colon bs) (cond (b == 34) (quoted bs) (bare (b ∷ bs))))
 
 abbrev pub next_piece : List ℕ → Next
-next_piece bs = next_dark (drop (until dark bs) bs)
+next_piece bs = next_dark (drop (prefix_len blank bs) bs)
 
 -- the pieces of a line, at most n
 abbrev pub onward : Next → (List ℕ → List Piece) → List Piece

@@ -3,10 +3,9 @@ pub mod Answer
 pub mod Drawn
 pub mod Form
 pub mod Lexed
-pub mod Lines
 pub mod Passes
 pub mod Reading
 pub mod Rows
 pub mod Spelling
-pub mod Table
+pub mod Unread
 pub mod Wrong

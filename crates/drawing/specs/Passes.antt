@@ -4,8 +4,7 @@ use Rattle.std.specs.declared.alloc.Global.{Global}
 use Rattle.drawing.specs.declared.names.Names.{Names}
 use Rattle.drawing.specs.declared.refusal.Refusal.{Refusal}
 use Rattle.drawing.specs.declared.refusal.Refusal.TheVariants.{Fault, Twice, Unknown, TooManyPlaces, TooManyMoves, TooLong, NoPlaces, Memory}
-use Rattle.drawing.specs.Reading.{lines, held, Why, faulty, twice, unknown, many_places, many_moves, long, no_places, name_line, name_lines, index_of, or_unknown, goals, word_line, word_lines}
-use Rattle.drawing.specs.Table.{texts, Sound}
+use Rattle.drawing.specs.Reading.{lines, held, Why, faulty, twice, unknown, many_places, many_moves, long, no_places, add_new, name_line, name_lines, index_of, or_unknown, goals, word_line, word_lines}
 
 -- the refusal says why; want of memory says nothing
 abbrev pub Refuses : {A : Type 0} → Result A Why → Refusal → Type 0
@@ -18,12 +17,16 @@ Refuses x TooLong = x ≡ Err long
 Refuses x NoPlaces = x ≡ Err no_places
 Refuses x Memory = Unit {0}
 
+-- name x of line n is added
+abbrev pub Added : ℕ → List ℕ → List (List ℕ) → List (List ℕ) → Result (Unit {0}) Refusal → Type 0
+Added n x old new r = MatchResult r (λ _. add_new n old x (index_of x old) ≡ Ok new) (λ e. Refuses (add_new n old x (index_of x old)) e)
+
 -- one line more is read
-abbrev pub Named : ℕ → List ℕ → Names → Names → Result (Unit {0}) Refusal → Type 0
-Named n line old new r = MatchResult r (λ _. Sound new × (name_line n (texts old) (held line) ≡ Ok (texts new))) (λ e. Refuses (name_line n (texts old) (held line)) e)
+abbrev pub Named : ℕ → List ℕ → List (List ℕ) → List (List ℕ) → Result (Unit {0}) Refusal → Type 0
+Named n line old new r = MatchResult r (λ _. name_line n old (held line) ≡ Ok new) (λ e. Refuses (name_line n old (held line)) e)
 
 abbrev pub Gathered : List ℕ → Result Names Refusal → Type 0
-Gathered text r = MatchResult r (λ t. Sound t × (name_lines 1 [] (lines text) ≡ Ok (texts t))) (λ e. Refuses (name_lines 1 [] (lines text)) e)
+Gathered text r = MatchResult r (λ t. name_lines 1 [] (lines text) ≡ Ok t) (λ e. Refuses (name_lines 1 [] (lines text)) e)
 
 -- each name stands at one place alone
 abbrev pub Apart : List (List ℕ) → Type 0

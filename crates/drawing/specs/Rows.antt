@@ -1,23 +1,21 @@
 -- What the code reads of a line.
 use Rattle.std.specs.Prelude.{◌≡◌, ℕ, Bool, List, ◌∷◌, length, Some, None, Ok, Err, Option, Result}
-use Rattle.std.specs.Borrow.{Bor}
 use Rattle.drawing.specs.declared.refusal.Fault.{Fault}
 use Rattle.drawing.specs.declared.token.Spelt.{Spelt}
 use Rattle.drawing.specs.declared.row.Row.{Row}
-use Rattle.drawing.specs.Form.{Piece, word, pieces, number_first, colon_first, names_of, nothing, place, bad, row}
-use Rattle.drawing.specs.Lexed.{meant}
+use Rattle.endless.specs.Sides.{number}
+use Rattle.drawing.specs.Form.{Piece, word, number_first, colon_first, names_of, nothing, place, bad, row}
+use Rattle.drawing.specs.Lexed.{is_quoted, meant, left}
 
-abbrev pub Worded : List Piece → Result (Spelt × Bor (List ℕ)) Fault → Type 0
-Worded ps (Ok p) = ps ≡ word p.0.quoted (meant p.0) ∷ pieces p.1.now
-Worded ps (Err e) = (read : Bool → List ℕ → Option ℕ) (f : Fault) → number_first read f ps ≡ Err e
+-- the next piece is a word, and others are left
+abbrev pub Worded : List Piece → Result Spelt Fault → List Piece → Type 0
+Worded old (Ok w) new = old ≡ word (is_quoted w) (meant w) ∷ new
+Worded old (Err e) new = (read : Bool → List ℕ → Option ℕ) (f : Fault) → number_first read f old ≡ Err e
 
-abbrev pub Numbered : Result (ℕ × List Piece) Fault → Result (ℕ × Bor (List ℕ)) Fault → Type 0
-Numbered x (Ok p) = x ≡ Ok (p.0, pieces p.1.now)
-Numbered x (Err e) = x ≡ Err e
-
-abbrev pub Followed : List Piece → Result (Bor (List ℕ)) Fault → Type 0
-Followed ps (Ok p) = colon_first ps ≡ Ok (pieces p.now)
-Followed ps (Err e) = colon_first ps ≡ Err e
+-- the next piece is a colon
+abbrev pub Followed : List Piece → Result (Unit {0}) Fault → List Piece → Type 0
+Followed old (Ok u) new = colon_first old ≡ Ok new
+Followed old (Err e) new = colon_first old ≡ Err e
 
 abbrev pub lengths : Result (List (List ℕ)) Fault → Result ℕ Fault
 lengths (Ok ws) = Ok (length ws)
@@ -26,9 +24,9 @@ lengths (Err e) = Err e
 -- the row is of the line, and its moves are still to be read
 pub record Rowed (ps : List Piece) (r : Row) : Type 0 where
   pub goes : List (List ℕ)
-  pub left : names_of (pieces r.moves.now) ≡ Ok goes
+  pub unread : names_of (left r.moves) ≡ Ok goes
   pub many : length goes ≡ r.count
-  pub is : row ps ≡ place (record { named = meant r.name; side = r.side; weighs = r.weight; goes = goes })
+  pub is : row ps ≡ place (record { named = meant r.name; side = number r.side; weighs = r.weight; goes = goes })
 
 abbrev pub ReadRow : List Piece → Result (Option Row) Fault → Type 0
 ReadRow ps (Ok None) = row ps ≡ nothing

@@ -1,7 +1,8 @@
 -- How a name is written.
 use Rattle.std.specs.Prelude.{◌≡◌, ℕ, ◌<◌, ◌≤◌, Bool, false, cond, not, ◌&&◌, ◌||◌, List, [], ◌∷◌, ◌++◌, length, ◌==◌}
-use Rattle.std.proofs.Math.Utf8.{encode}
-use Rattle.drawing.specs.Form.{until, stops, dash, control_within, word, pieces}
+use Rattle.std.specs.Char.{encode_utf8}
+use Rattle.std.specs.List.{position_or_len}
+use Rattle.drawing.specs.Form.{stops, dash, control_within, word, pieces}
 
 -- a quote and a backslash are written behind a backslash
 abbrev pub special : ℕ → Bool
@@ -11,15 +12,18 @@ abbrev pub escaped : List ℕ → List ℕ
 escaped [] = []
 escaped (b ∷ bs) = cond (special b) (92 ∷ b ∷ escaped bs) (b ∷ escaped bs)
 
-abbrev pub marked : ℕ → List ℕ
-marked c = cond (special c) (92 ∷ encode c) (encode c)
-
 -- a name may stand bare if nothing in it ends a bare word
 abbrev pub plainly : List ℕ → Bool
-plainly n = not (length n == 0) && (until stops n == length n && not (dash n))
+plainly n = not (length n == 0) && (position_or_len stops n == length n && not (dash n))
+
+abbrev pub marked : ℕ → List ℕ
+marked c = cond (special c) (92 ∷ encode_utf8 c) (encode_utf8 c)
+
+abbrev pub in_quotes : List ℕ → List ℕ
+in_quotes n = 34 ∷ (escaped n ++ (34 ∷ []))
 
 abbrev pub spelling : List ℕ → List ℕ
-spelling n = cond (plainly n) n (34 ∷ (escaped n ++ (34 ∷ [])))
+spelling n = cond (plainly n) n (in_quotes n)
 
 -- a name: 1 to 64 bytes, no control character
 pub record IsName (n : List ℕ) : Type 0 where

@@ -8,6 +8,7 @@ ghost use Rattle.drawing.specs.Wrong.{Says};
 
 use std::alloc::Global;
 
+pub mod file;
 mod gather;
 mod line;
 mod names;
@@ -19,9 +20,10 @@ mod spell;
 mod token;
 mod write;
 
-pub use gather::MOST_PLACES;
+pub use file::{Unread, read_from};
+pub use names::MOST_PLACES;
 pub use refusal::{Fault, Refusal};
-pub use spell::written;
+pub use spell::{Name, Quoted, written};
 pub use token::MOST_NAME;
 pub use write::MOST_MOVES;
 
@@ -41,11 +43,11 @@ fn read_lines(heap: Global, text: &str) -> Result<Drawing, Refusal>
     ensures drawn { IfOk result (λ d. Drawn text.now (drawn_names d) (drawn_words d)) }
 {
     let table = gather::gather_names(heap, text)?;
-    if table.names.is_empty() {
+    if table.len() == 0 {
         return Err(Refusal::NoPlaces);
     }
     let words = write::write_words(heap, &table, text)?;
-    let names = table.into_names();
+    let names = table.into_names(heap)?;
     Ok(Drawing { words, names })
 }
 

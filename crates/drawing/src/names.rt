@@ -1,78 +1,73 @@
-//! The names of the places, with a table to look them up.
-ghost use Rattle.std.specs.Prelude.{◌≡◌, ℕ, ◌<◌, [], ◌∷◌, ◌++◌, map, length, IfOk, string_bytes, OnOk};
-ghost use Rattle.drawing.specs.Table.{hash, texts, Sound, Finds};
+//! The names of the places, in the order of their lines.
+ghost use Rattle.std.specs.Prelude.{◌≡◌, [], length, map, string_bytes, IfOk};
+ghost use Rattle.drawing.specs.Reading.{index_of};
+ghost use Rattle.drawing.specs.Passes.{Added};
 
+use crate::refusal::Refusal;
+use indexmap::IndexSet;
 use std::alloc::{AllocError, Global};
+use std::marker::Model;
 
-/// How many chains the table has.
-const BUCKETS: usize = 16_381;
+/// The most places of a drawing.
+pub const MOST_PLACES: usize = 16_384;
 
-/// The names in their order. `heads` has for each bucket the last name in it, and `next` for each name the one before it in its bucket, each as one more than its index, or 0.
+/// Names that all differ, each with the index of its place. A contract sees them as a list.
 #[derive(Drop)]
 pub(crate) struct Names {
-    pub(crate) names: Vec<String>,
-    heads: Vec<u32>,
-    next: Vec<u32>,
+    names: IndexSet<String>,
 }
 
-fn bucket(bytes: &[u8]) -> usize
-    ensures is { result ≡ hash 0 bytes.now }
-    ensures within { result < 16381 }
-{
-    let mut h = 0;
-    for b in bytes {
-        h = (257 * h + *b as usize) % BUCKETS;
-    }
-    h
+impl Model for Names {
+    ghost use Rattle.std.specs.Prelude.{ℕ, ◌≤◌, List, length, map, string_bytes};
+
+    ghost Value = { List (List ℕ) };
+
+    ghost view = { λ s. map string_bytes s.names.keys };
+
+    ghost invariant = { λ s. length s.names.keys ≤ 16384 };
 }
 
 impl Names {
-    pub(crate) fn new(heap: Global) -> Result<Names, AllocError>
-        ensures { IfOk result (λ t. Sound t × (texts t ≡ [])) }
+    pub(crate) fn new(heap: Global) -> Names
+        ensures { result ≡ [] }
     {
-        let names = Vec::new(heap);
-        let heads = vec![in heap; 0; BUCKETS]?;
-        let next = Vec::new(heap);
-        Ok(Names { names, heads, next })
-    }
-
-    /// The index of a name.
-    pub(crate) fn find(&self, name: &str) -> Option<usize>
-        requires { Sound self.now }
-        ensures { Finds (texts self.now) name.now result }
-    {
-        let mut at = self.heads[bucket(name.as_bytes())] as usize;
-        while at > 0 {
-            let i = at - 1;
-            if self.names[i].as_str() == name {
-                return Some(i);
-            }
-            at = self.next[i] as usize;
+        Names {
+            names: IndexSet::new(heap),
         }
-        None
     }
 
-    /// Puts a name behind the others.
-    pub(crate) fn add(&mut self, name: String) -> Result<(), AllocError>
-        requires sound { Sound self.old }
-        requires room { length (texts self.old) < 16384 }
-        ensures { OnOk result (Sound self.new × (texts self.new ≡ texts self.old ++ (string_bytes name ∷ []))) }
+    pub(crate) fn len(&self) -> u32
+        ensures { result ≡ length self.now }
     {
-        let b = bucket(name.as_bytes());
-        let head = self.heads[b];
-        self.next.push(head)?;
-        self.names.push(name)?;
-        self.heads[b] = self.names.len() as u32;
+        self.names.len() as u32
+    }
+
+    /// The place of this name.
+    pub(crate) fn find(&self, name: &str) -> Option<u32>
+        ensures { result ≡ index_of name.now self.now }
+    {
+        Some(self.names.get_index_of(name)? as u32)
+    }
+
+    /// Puts the name that line `line` gives its place behind the others.
+    pub(crate) fn add(&mut self, line: usize, name: String) -> Result<(), Refusal>
+        ensures { Added line (string_bytes name) self.old self.new result }
+    {
+        if self.find(name.as_str()).is_some() {
+            return Err(Refusal::Twice { line, name });
+        }
+        if self.names.len() >= MOST_PLACES {
+            return Err(Refusal::TooManyPlaces { line });
+        }
+        self.names.insert(name)?;
         Ok(())
     }
 
     /// The names alone.
-    pub(crate) fn into_names(self) -> Vec<String>
-        ensures { map string_bytes result.items ≡ texts self }
+    pub(crate) fn into_names(self, heap: Global) -> Result<Vec<String>, AllocError>
+        ensures { IfOk result (λ v. map string_bytes v.items ≡ self) }
     {
-        let Names { names, heads, next } = self;
-        drop(heads);
-        drop(next);
-        names
+        let Names { names } = self;
+        names.into_iter().collect(heap)
     }
 }

@@ -2,7 +2,12 @@
 ghost use Rattle.std.specs.Prelude.{◌≡◌};
 ghost use Rattle.drawing.specs.declared.refusal.Refusal.TheVariants.{Memory};
 
+use crate::MOST_BYTES;
+use crate::names::MOST_PLACES;
+use crate::spell::Quoted;
+use crate::write::MOST_MOVES;
 use std::alloc::{AllocError, AllocFailed};
+use std::error::Error;
 use std::fmt;
 
 /// What is wrong with a line by itself.
@@ -88,38 +93,33 @@ impl fmt::Display for Fault {
     }
 }
 
-/// The name in double quotes.
-fn show<W: fmt::Write>(name: &String, f: &mut fmt::Formatter<W>) -> fmt::Result {
-    f.write_char('"')?;
-    for c in name.chars() {
-        if c == '"' || c == '\\' {
-            f.write_char('\\')?;
-        }
-        f.write_char(c)?;
-    }
-    f.write_char('"')
-}
-
 impl fmt::Display for Refusal {
     fn fmt<W: fmt::Write>(&self, f: &mut fmt::Formatter<W>) -> fmt::Result {
         match self {
             Refusal::Fault { line, fault } => write!(f, "line {line}: {fault}"),
             Refusal::Twice { line, name } => {
-                write!(f, "line {line}: there is a place named ")?;
-                show(name, f)?;
-                f.write_str(" already; each place has a name of its own")
+                let name = Quoted(name.as_str());
+                write!(
+                    f,
+                    "line {line}: there is a place named {name} already; each place has a name of its own"
+                )
             }
             Refusal::Unknown { line, name } => {
-                write!(f, "line {line}: there is no place named ")?;
-                show(name, f)?;
-                f.write_str("; a move names a place that has a line of its own")
+                let name = Quoted(name.as_str());
+                write!(
+                    f,
+                    "line {line}: there is no place named {name}; a move names a place that has a line of its own"
+                )
             }
-            Refusal::TooManyPlaces { line } => write!(f, "line {line}: more than 16384 places"),
+            Refusal::TooManyPlaces { line } => write!(
+                f,
+                "line {line}: more than {MOST_PLACES} places"
+            ),
             Refusal::TooManyMoves { line } => write!(
                 f,
-                "line {line}: more than 64000 moves in all"
+                "line {line}: more than {MOST_MOVES} moves in all"
             ),
-            Refusal::TooLong => f.write_str("the drawing is longer than 1572864 bytes"),
+            Refusal::TooLong => write!(f, "the drawing is longer than {MOST_BYTES} bytes"),
             Refusal::NoPlaces => f.write_str(
                 "the drawing has no places; write a line NAME SIDE WEIGHT: NAME NAME .. for each",
             ),
@@ -127,3 +127,7 @@ impl fmt::Display for Refusal {
         }
     }
 }
+
+impl Error for Fault {}
+
+impl Error for Refusal {}

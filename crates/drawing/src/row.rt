@@ -1,14 +1,16 @@
 //! A line that holds a place: NAME SIDE WEIGHT: NAME NAME ..
-ghost use Rattle.std.specs.Prelude.{◌≡◌, ℕ, ◌<◌};
-ghost use Rattle.drawing.specs.declared.refusal.Fault.TheVariants.{Side, Weight};
-ghost use Rattle.drawing.specs.Form.{digits, side_of, weight_of, number_first, pieces, names_of, some_names};
-ghost use Rattle.drawing.specs.Lexed.{meant};
+ghost use Rattle.std.specs.Prelude.{◌≡◌, ◌<◌, ◌^◌, length};
+ghost use Rattle.std.specs.Option.{option_map};
+ghost use Rattle.endless.specs.Sides.{number};
+ghost use Rattle.drawing.specs.Form.{digits, side_of, weight_of, pieces, names_of, some_names};
+ghost use Rattle.drawing.specs.Lexed.{is_quoted, meant, left};
 ghost use Rattle.drawing.specs.Reading.{bared};
-ghost use Rattle.drawing.specs.Rows.{Worded, Numbered, Followed, lengths, ReadRow};
+ghost use Rattle.drawing.specs.Rows.{lengths, ReadRow};
 
+use crate::line;
 use crate::refusal::Fault;
-use crate::token::{Spelt, Token};
-use crate::{line, token};
+use crate::token::{Spelt, Token, Tokens};
+use endless::side::Side;
 
 /// Weights are below this.
 const WEIGHTS: u32 = 256;
@@ -17,41 +19,27 @@ const WEIGHTS: u32 = 256;
 #[derive(Clone, Copy)]
 pub(crate) struct Row<'a> {
     pub(crate) name: Spelt<'a>,
-    pub(crate) side: u32,
+    pub(crate) side: Side,
     pub(crate) weight: u32,
     pub(crate) count: usize,
-    pub(crate) moves: &'a str,
+    pub(crate) moves: Tokens<'a>,
 }
 
-fn read_word(line: &str) -> Result<(Spelt<'_>, &str), Fault>
-    ensures { Worded (pieces line.now) result }
+fn side(word: Spelt<'_>) -> Option<Side>
+    ensures { option_map number result ≡ side_of (is_quoted word.entry) (meant word.entry) }
 {
-    match token::next_token(line)? {
-        (Token::Word(word), rest) => Ok((word, rest)),
-        (Token::Colon, _) => Err(Fault::Form),
-        (Token::End, _) => Err(Fault::Form),
+    match word {
+        Spelt::Bare("0") => Some(Side::Even),
+        Spelt::Bare("1") => Some(Side::Odd),
+        Spelt::Bare(_) | Spelt::Quoted(_) => None,
     }
-}
-
-fn side(word: Spelt<'_>) -> Option<u32>
-    ensures { result ≡ side_of word.entry.quoted (meant word.entry) }
-{
-    if word.quoted {
-        return None;
-    }
-    if word.raw == "0" {
-        return Some(0);
-    }
-    if word.raw == "1" {
-        return Some(1);
-    }
-    None
 }
 
 /// The number in digits, if it is a weight.
 fn number(bytes: &[u8]) -> Option<u32>
     ensures { result ≡ digits 0 bytes.now }
 {
+    // No `parse`: it would take a `+` in front, which is no part of a weight.
     let mut n = 0;
     for b in bytes {
         if !b.is_ascii_digit() {
@@ -66,58 +54,24 @@ fn number(bytes: &[u8]) -> Option<u32>
 }
 
 fn weight(word: Spelt<'_>) -> Option<u32>
-    ensures { result ≡ weight_of word.entry.quoted (meant word.entry) }
+    ensures { result ≡ weight_of (is_quoted word.entry) (meant word.entry) }
 {
-    if word.quoted {
-        return None;
-    }
-    number(word.raw.as_bytes())
-}
-
-fn read_side(line: &str) -> Result<(u32, &str), Fault>
-    ensures { Numbered (number_first side_of Side (pieces line.now)) result }
-{
-    let (word, rest) = read_word(line)?;
-    match side(word) {
-        Some(side) => Ok((side, rest)),
-        None => Err(Fault::Side),
-    }
-}
-
-fn read_weight(line: &str) -> Result<(u32, &str), Fault>
-    ensures { Numbered (number_first weight_of Weight (pieces line.now)) result }
-{
-    let (word, rest) = read_word(line)?;
-    match weight(word) {
-        Some(weight) => Ok((weight, rest)),
-        None => Err(Fault::Weight),
-    }
-}
-
-fn read_colon(line: &str) -> Result<&str, Fault>
-    ensures { Followed (pieces line.now) result }
-{
-    match token::next_token(line)? {
-        (Token::Colon, rest) => Ok(rest),
-        (Token::Word(_), _) => Err(Fault::Form),
-        (Token::End, _) => Err(Fault::Form),
+    match word {
+        Spelt::Bare(raw) => number(raw.as_bytes()),
+        Spelt::Quoted(_) => None,
     }
 }
 
 /// How many moves the rest of a line names.
-fn count_moves(line: &str) -> Result<usize, Fault>
-    ensures { result ≡ lengths (some_names (names_of (pieces line.now))) }
+fn count_moves(moves: Tokens<'_>) -> Result<usize, Fault>
+    requires { length (left moves) < 2 ^ 63 }
+    ensures { result ≡ lengths (some_names (names_of (left moves.entry))) }
 {
-    let mut rest = line;
     let mut count = 0;
-    loop {
-        match token::next_token(rest)? {
-            (Token::Word(_), after) => {
-                count += 1;
-                rest = after;
-            }
-            (Token::Colon, _) => return Err(Fault::Form),
-            (Token::End, _) => break,
+    for token in moves {
+        match token? {
+            Token::Word(_) => count += 1,
+            Token::Colon => return Err(Fault::Form),
         }
     }
     if count == 0 {
@@ -126,26 +80,27 @@ fn count_moves(line: &str) -> Result<usize, Fault>
     Ok(count)
 }
 
-/// What the line holds: nothing, or a place.
-pub(crate) fn read_row(line: &str) -> Result<Option<Row<'_>>, Fault>
+/// The place that the line holds, if it holds one.
+fn read_row(line: &str) -> Result<Option<Row<'_>>, Fault>
     ensures { ReadRow (pieces line.now) result }
 {
-    let (first, rest) = token::next_token(line)?;
-    let name = match first {
-        Token::End => return Ok(None),
-        Token::Colon => return Err(Fault::Form),
-        Token::Word(name) => name,
+    let mut tokens = Tokens::of(line);
+    let Some(first) = tokens.next() else {
+        return Ok(None);
     };
-    let (side, rest) = read_side(rest)?;
-    let (weight, rest) = read_weight(rest)?;
-    let moves = read_colon(rest)?;
-    let count = count_moves(moves)?;
+    let Token::Word(name) = first? else {
+        return Err(Fault::Form);
+    };
+    let side = side(tokens.word()?).ok_or(Fault::Side)?;
+    let weight = weight(tokens.word()?).ok_or(Fault::Weight)?;
+    tokens.colon()?;
+    let count = count_moves(tokens)?;
     Ok(Some(Row {
         name,
         side,
         weight,
         count,
-        moves,
+        moves: tokens,
     }))
 }
 

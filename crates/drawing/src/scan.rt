@@ -1,6 +1,7 @@
 //! How far some bytes go.
 ghost use Rattle.std.specs.Prelude.{◌≡◌, false, length};
-ghost use Rattle.drawing.specs.Form.{until, feed, blank, dark, ends, stops, control, control_within, escapes, astray, closes, closing, plain};
+ghost use Rattle.std.specs.List.{prefix_len, position_or_len};
+ghost use Rattle.drawing.specs.Form.{blank, ends, stops, control, control_within, escapes, astray, closes, closing, plain};
 
 pub(crate) fn is_blank(b: u8) -> bool
     ensures { result ≡ blank b }
@@ -22,37 +23,18 @@ fn is_stop(b: u8) -> bool
     is_end(b) || b == b'"' || b == b'\\'
 }
 
-/// How many bytes stand before the end of the line.
-pub(crate) fn line_len(bytes: &[u8]) -> usize
-    ensures { result ≡ until feed bytes.now }
-{
-    let mut n = 0;
-    while n < bytes.len() && bytes[n] != b'\n' {
-        n += 1;
-    }
-    n
-}
-
 /// How many blanks and tabs stand in front.
 pub(crate) fn blank_len(bytes: &[u8]) -> usize
-    ensures { result ≡ until dark bytes.now }
+    ensures { result ≡ prefix_len blank bytes.now }
 {
-    let mut n = 0;
-    while n < bytes.len() && is_blank(bytes[n]) {
-        n += 1;
-    }
-    n
+    bytes.iter().take_while(|b| is_blank(**b)).count()
 }
 
 /// How long the bare word in front is.
 pub(crate) fn word_len(bytes: &[u8]) -> usize
-    ensures { result ≡ until stops bytes.now }
+    ensures { result ≡ position_or_len stops bytes.now }
 {
-    let mut n = 0;
-    while n < bytes.len() && !is_stop(bytes[n]) {
-        n += 1;
-    }
-    n
+    bytes.iter().take_while(|b| !is_stop(**b)).count()
 }
 
 /// Whether the byte is of a control character: below 32, 127, or below 160 after C2.
@@ -117,6 +99,7 @@ pub(crate) fn closing_quote(bytes: &[u8]) -> Option<usize>
 pub(crate) fn plain_len(bytes: &[u8]) -> usize
     ensures { result ≡ length (plain false bytes.now) }
 {
+    // No `filter` and `count`: its closure would change `escaped`, and a proof knows nothing of what such a closure returned.
     let mut escaped = false;
     let mut n = 0;
     for b in bytes {

@@ -12,19 +12,7 @@ pub const MOST_SHOWN: usize = 100;
 pub fn line_at(text: &str, number: usize) -> &str
     ensures { result.now ≡ slice_index_or (lines text.now) (number - 1) [] }
 {
-    let mut rest = text;
-    let mut left = number;
-    loop {
-        let (line, after) = line::split_line(rest);
-        if left <= 1 {
-            return line;
-        }
-        let Some(behind) = after else {
-            return "";
-        };
-        rest = behind;
-        left -= 1;
-    }
+    text.split('\n').nth(number.saturating_sub(1)).unwrap_or("")
 }
 
 /// The line of this number as it is shown: no more than 100 characters of it,

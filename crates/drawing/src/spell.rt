@@ -1,12 +1,15 @@
 //! Names and how they are written.
-ghost use Rattle.std.specs.Prelude.{◌≡◌, false, ◌++◌, IfOk, string_bytes, OnOk};
+ghost use Rattle.std.specs.Prelude.{◌≡◌, false, Some, IfOk, string_bytes};
+ghost use Rattle.std.specs.Fmt.{WritesOnOk};
 ghost use Rattle.drawing.specs.Form.{escapes, plain};
 ghost use Rattle.drawing.specs.Lexed.{meant};
-ghost use Rattle.drawing.specs.Spelling.{special, escaped, marked, plainly, spelling, IsName, Means};
+ghost use Rattle.drawing.specs.Spelling.{special, marked, plainly, in_quotes, spelling, IsName, Means};
 
 use crate::scan;
 use crate::token::Spelt;
 use std::alloc::{AllocError, Global};
+use std::fmt;
+use std::fmt::Write;
 
 /// Whether the character is a backslash that takes the next one with it.
 fn is_escape(escaped: bool, c: char) -> bool
@@ -30,14 +33,15 @@ fn unescaped(heap: Global, raw: &str) -> Result<String, AllocError>
     Ok(name)
 }
 
-/// The name that a word means.
-pub(crate) fn name_of(heap: Global, word: Spelt<'_>) -> Result<String, AllocError>
-    ensures { IfOk result (λ s. string_bytes s ≡ meant word.entry) }
-{
-    if word.quoted {
-        unescaped(heap, word.raw)
-    } else {
-        String::from_str(heap, word.raw)
+impl<'a> Spelt<'a> {
+    /// The name that the word means.
+    pub(crate) fn to_name(self, heap: Global) -> Result<String, AllocError>
+        ensures { IfOk result (λ s. string_bytes s ≡ meant self.entry) }
+    {
+        match self {
+            Spelt::Bare(raw) => String::from_str(heap, raw),
+            Spelt::Quoted(raw) => unescaped(heap, raw),
+        }
     }
 }
 
@@ -47,36 +51,53 @@ fn is_special(c: char) -> bool
     c == '"' || c == '\\'
 }
 
-fn push_marked(out: &mut String, c: char) -> Result<(), AllocError>
-    ensures { OnOk result (string_bytes out.new ≡ string_bytes out.old ++ marked c) }
+/// The character as it stands in quotes.
+fn write_marked<W: fmt::Write>(f: &mut fmt::Formatter<W>, c: char) -> fmt::Result
+    ensures { WritesOnOk W.write_str_gives f.old result (marked c) f.new }
 {
-    if !is_special(c) {
-        return out.push(c);
+    if is_special(c) {
+        f.write_char('\\')?;
     }
-    out.push('\\')?;
-    out.push(c)
-}
-
-fn push_escaped(out: &mut String, name: &str) -> Result<(), AllocError>
-    ensures { OnOk result (string_bytes out.new ≡ string_bytes out.old ++ escaped name.now) }
-{
-    for c in name.chars() {
-        push_marked(out, c)?;
-    }
-    Ok(())
+    f.write_char(c)
 }
 
 /// Whether the name may stand bare.
 fn is_plain(name: &str) -> bool
     ensures { result ≡ plainly name.now }
 {
-    if name.is_empty() {
-        return false;
+    !name.is_empty() && scan::word_len(name.as_bytes()) == name.len() && name != "-"
+}
+
+/// A name that is printed in double quotes.
+#[derive(Clone, Copy)]
+pub struct Quoted<'a>(pub &'a str);
+
+impl<'a> fmt::Display for Quoted<'a> {
+    ghost output = { λ q. Some (in_quotes q.0.now) };
+
+    fn fmt<W: fmt::Write>(&self, f: &mut fmt::Formatter<W>) -> fmt::Result {
+        f.write_char('"')?;
+        for c in self.0.chars() {
+            write_marked(f, c)?;
+        }
+        f.write_char('"')
     }
-    if scan::word_len(name.as_bytes()) != name.len() {
-        return false;
+}
+
+/// A name that is printed as a drawing has it: bare where it may be, else in double quotes.
+#[derive(Clone, Copy)]
+pub struct Name<'a>(pub &'a str);
+
+impl<'a> fmt::Display for Name<'a> {
+    ghost output = { λ n. Some (spelling n.0.now) };
+
+    fn fmt<W: fmt::Write>(&self, f: &mut fmt::Formatter<W>) -> fmt::Result {
+        if is_plain(self.0) {
+            f.write_str(self.0)
+        } else {
+            Quoted(self.0).fmt(f)
+        }
     }
-    name != "-"
 }
 
 /// The name as a drawing has it: bare where it may be, else in double quotes.
@@ -84,12 +105,5 @@ pub fn written(heap: Global, name: &str) -> Result<String, AllocError>
     ensures is { IfOk result (λ s. string_bytes s ≡ spelling name.now) }
     ensures back { IsName name.now → IfOk result (λ s. Means name.now (string_bytes s)) }
 {
-    if is_plain(name) {
-        return String::from_str(heap, name);
-    }
-    let mut out = String::new(heap);
-    out.push('"')?;
-    push_escaped(&mut out, name)?;
-    out.push('"')?;
-    Ok(out)
+    Name(name).to_string(heap)
 }

@@ -1,7 +1,9 @@
 //! The tokens of a line: colons, and words bare or in quotes.
 ghost use Rattle.std.specs.Prelude.{◌≡◌};
-ghost use Rattle.drawing.specs.Form.{apart, bare, quoted, next_piece};
-ghost use Rattle.drawing.specs.Lexed.{Lexed};
+ghost use Rattle.std.specs.Iterator.{YieldsFirstBy, item_count};
+ghost use Rattle.drawing.specs.Form.{pieces, apart, bare, quoted, next_piece};
+ghost use Rattle.drawing.specs.Lexed.{shown, left, LexedWord, Lexed};
+ghost use Rattle.drawing.specs.Rows.{Worded, Followed};
 
 use crate::refusal::Fault;
 use crate::scan;
@@ -9,18 +11,75 @@ use crate::scan;
 /// The most bytes of a name.
 pub const MOST_NAME: usize = 64;
 
-/// A word as it is spelt: whether in quotes, and what stands in them.
+/// A word as it is spelt: bare, or what stands in its quotes.
 #[derive(Clone, Copy)]
-pub(crate) struct Spelt<'a> {
-    pub(crate) quoted: bool,
-    pub(crate) raw: &'a str,
+pub(crate) enum Spelt<'a> {
+    Bare(&'a str),
+    Quoted(&'a str),
 }
 
 #[derive(Clone, Copy)]
 pub(crate) enum Token<'a> {
-    End,
     Colon,
     Word(Spelt<'a>),
+}
+
+/// The tokens of a line, one after the other. A fault is the last.
+#[derive(Clone, Copy)]
+pub(crate) struct Tokens<'a> {
+    rest: &'a str,
+}
+
+impl<'a> Iterator for Tokens<'a> {
+    type Item = Result<Token<'a>, Fault>;
+
+    ghost next_gives = { YieldsFirstBy shown left };
+
+    ghost remaining = { item_count left };
+
+    fn next(&mut self) -> Option<Result<Token<'a>, Fault>> {
+        match next_token(self.rest) {
+            Ok(None) => None,
+            Ok(Some((token, rest))) => {
+                self.rest = rest;
+                Some(Ok(token))
+            }
+            Err(fault) => {
+                self.rest = "";
+                Some(Err(fault))
+            }
+        }
+    }
+}
+
+impl<'a> Tokens<'a> {
+    pub(crate) fn of(line: &'a str) -> Tokens<'a>
+        ensures { left result ≡ pieces line.now }
+    {
+        Tokens { rest: line }
+    }
+
+    /// The next token, which has to be a word.
+    pub(crate) fn word(&mut self) -> Result<Spelt<'a>, Fault>
+        ensures { Worded (left self.old) result (left self.new) }
+    {
+        match self.next() {
+            Some(Ok(Token::Word(word))) => Ok(word),
+            Some(Ok(Token::Colon)) | None => Err(Fault::Form),
+            Some(Err(fault)) => Err(fault),
+        }
+    }
+
+    /// The next token has to be a colon.
+    pub(crate) fn colon(&mut self) -> Result<(), Fault>
+        ensures { Followed (left self.old) result (left self.new) }
+    {
+        match self.next() {
+            Some(Ok(Token::Colon)) => Ok(()),
+            Some(Ok(Token::Word(_))) | None => Err(Fault::Form),
+            Some(Err(fault)) => Err(fault),
+        }
+    }
 }
 
 /// Whether a word may end here.
@@ -34,8 +93,8 @@ fn is_apart(rest: &str) -> bool
 }
 
 /// The bare word in front.
-fn bare_word(text: &str) -> Result<(Token<'_>, &str), Fault>
-    ensures { Lexed (bare text.now) result }
+fn bare_word(text: &str) -> Result<(Spelt<'_>, &str), Fault>
+    ensures { LexedWord (bare text.now) result }
 {
     let (raw, rest) = text.split_at(scan::word_len(text.as_bytes()));
     if raw.is_empty() {
@@ -53,17 +112,14 @@ fn bare_word(text: &str) -> Result<(Token<'_>, &str), Fault>
     if raw.len() > MOST_NAME {
         return Err(Fault::LongName);
     }
-    let quoted = false;
-    Ok((Token::Word(Spelt { quoted, raw }), rest))
+    Ok((Spelt::Bare(raw), rest))
 }
 
 /// The word in quotes, from behind the opening quote.
-fn quoted_word(text: &str) -> Result<(Token<'_>, &str), Fault>
-    ensures { Lexed (quoted text.now) result }
+fn quoted_word(text: &str) -> Result<(Spelt<'_>, &str), Fault>
+    ensures { LexedWord (quoted text.now) result }
 {
-    let Some(n) = scan::closing_quote(text.as_bytes()) else {
-        return Err(Fault::Quote);
-    };
+    let n = scan::closing_quote(text.as_bytes()).ok_or(Fault::Quote)?;
     let (raw, _) = text.split_at(n);
     let (_, rest) = text.split_at(n + 1);
     if !is_apart(rest) {
@@ -79,27 +135,28 @@ fn quoted_word(text: &str) -> Result<(Token<'_>, &str), Fault>
     if len > MOST_NAME {
         return Err(Fault::LongName);
     }
-    let quoted = true;
-    Ok((Token::Word(Spelt { quoted, raw }), rest))
+    Ok((Spelt::Quoted(raw), rest))
 }
 
 /// The next token of a line, and what is left of the line.
-pub(crate) fn next_token(line: &str) -> Result<(Token<'_>, &str), Fault>
+fn next_token(line: &str) -> Result<Option<(Token<'_>, &str)>, Fault>
     ensures { Lexed (next_piece line.now) result }
 {
     let (_, text) = line.split_at(scan::blank_len(line.as_bytes()));
     if text.is_empty() {
-        return Ok((Token::End, text));
+        return Ok(None);
     }
     let first = text.as_bytes()[0];
     if first == b'#' {
-        return Ok((Token::End, text));
+        return Ok(None);
     }
     if first == b':' {
-        return Ok((Token::Colon, text.split_at(1).1));
+        return Ok(Some((Token::Colon, text.split_at(1).1)));
     }
-    if first == b'"' {
-        return quoted_word(text.split_at(1).1);
-    }
-    bare_word(text)
+    let (word, rest) = if first == b'"' {
+        quoted_word(text.split_at(1).1)?
+    } else {
+        bare_word(text)?
+    };
+    Ok(Some((Token::Word(word), rest)))
 }

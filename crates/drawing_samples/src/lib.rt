@@ -4,7 +4,7 @@
 #[cfg(test)]
 mod tests {
     use drawing::shown::shown_line;
-    use drawing::{Fault, Refusal, read, written};
+    use drawing::{Fault, Name, Quoted, Refusal, Unread, read, read_from, written};
     use std::alloc::Global;
     use std::test::Fail;
 
@@ -41,6 +41,69 @@ mod tests {
         assert_eq!(rt; d.names[0].as_str(), "a \"b\\");
         let back = written(rt.alloc(), d.names[0].as_str())?;
         assert_eq!(rt; back.as_str(), "\"a \\\"b\\\\\"");
+        Ok(())
+    }
+
+    #[test]
+    fn names_are_printed(rt: HostRuntime) -> Result<(), Fail> {
+        let heap = rt.alloc();
+        for (name, as_drawn, in_quotes) in [
+            ("up", "up", "\"up\""),
+            ("-", "\"-\"", "\"-\""),
+            ("", "\"\"", "\"\""),
+            ("a b\\", "\"a b\\\\\"", "\"a b\\\\\""),
+            ("\"ä", "\"\\\"ä\"", "\"\\\"ä\""),
+        ] {
+            assert_eq!(rt; Name(name).to_string(heap)?.as_str(), as_drawn);
+            assert_eq!(rt; Quoted(name).to_string(heap)?.as_str(), in_quotes);
+        }
+        Ok(())
+    }
+
+    #[test]
+    fn a_drawing_is_read_from_bytes(rt: HostRuntime) -> Result<(), Fail> {
+        let heap = rt.alloc();
+        let Ok(d) = read_from(heap, "a 0 1: b\nb 1 2: a".as_bytes()) else {
+            return Err(Fail::new("no drawing"));
+        };
+        assert_eq!(rt; d.words.as_slice(), [2, 0, 1, 1, 1, 1, 2, 1, 0].as_slice());
+        assert_eq!(rt; d.names[1].as_str(), "b");
+        Ok(())
+    }
+
+    // What is said of bytes that are no drawing.
+    fn unread(heap: Global, bytes: &[u8]) -> Result<String, Fail> {
+        match read_from(heap, bytes) {
+            Ok(_) => Err(Fail::new("read")),
+            Err(why) => Ok(why.to_string(heap)?),
+        }
+    }
+
+    #[test]
+    fn bytes_that_are_no_drawing_are_told(rt: HostRuntime) -> Result<(), Fail> {
+        let heap = rt.alloc();
+        assert_eq!(rt; unread(heap, b"a 0 1: a\xff")?.as_str(), "not UTF-8");
+        assert_eq!(rt;
+            unread(heap, b"# one\r\na 0 256: a\r\n")?.as_str(),
+            "line 2: the weight is not a number below 256\n  a 0 256: a"
+        );
+        assert_eq!(rt;
+            unread(heap, b"")?.as_str(),
+            "the drawing has no places; write a line NAME SIDE WEIGHT: NAME NAME .. for each"
+        );
+        let Err(why) = read_from(heap, b"a 0 1: b".as_slice()) else {
+            return Err(Fail::new("read"));
+        };
+        match why {
+            Unread::Refused { refusal, line } => {
+                assert_eq!(rt; line.as_str(), "a 0 1: b");
+                match refusal {
+                    Refusal::Unknown { line: 1, name } => assert_eq!(rt; name.as_str(), "b"),
+                    _ => return Err(Fail::new("another refusal")),
+                }
+            }
+            _ => return Err(Fail::new("another answer")),
+        }
         Ok(())
     }
 

@@ -30,6 +30,21 @@ pub enum Output {
     Summary,
 }
 
+/// A form of output by its name; a name that is none comes back.
+impl TryFrom<String> for Output {
+    type Error = String;
+
+    fn try_from(name: String) -> Result<Output, String> {
+        match name.as_str() {
+            "places" => Ok(Output::Places),
+            "answer" => Ok(Output::Answer),
+            "words" => Ok(Output::Words),
+            "summary" => Ok(Output::Summary),
+            _ => Err(name),
+        }
+    }
+}
+
 /// Drawings to read, `-` for standard input, and what to print of each.
 #[derive(Drop)]
 pub struct Job {
@@ -47,36 +62,21 @@ pub enum Request {
 pub(crate) fn parse(heap: Global, args: Args) -> Result<Request, Fault> {
     let mut output = Output::Places;
     let mut files = Vec::new(heap);
-    let mut wants_output = false;
-    for arg in args.skip(1) {
-        if wants_output {
-            output = output_named(arg)?;
-            wants_output = false;
-        } else {
-            match arg.as_str() {
-                "--help" => return Ok(Request::Help),
-                "--output" => wants_output = true,
-                _ => files.push(file_named(arg)?)?,
+    let mut args = args.skip(1);
+    while let Some(arg) = args.next() {
+        match arg.as_str() {
+            "--help" => return Ok(Request::Help),
+            "--output" => {
+                let name = args.next().ok_or(Fault::NoOutput)?;
+                output = Output::try_from(name).map_err(Fault::Output)?;
             }
+            _ => files.push(file_named(arg)?)?,
         }
-    }
-    if wants_output {
-        return Err(Fault::NoOutput);
     }
     if files.is_empty() {
         files.push(String::from_str(heap, "-")?)?;
     }
     Ok(Request::Read(Job { files, output }))
-}
-
-fn output_named(name: String) -> Result<Output, Fault> {
-    match name.as_str() {
-        "places" => Ok(Output::Places),
-        "answer" => Ok(Output::Answer),
-        "words" => Ok(Output::Words),
-        "summary" => Ok(Output::Summary),
-        _ => Err(Fault::Output(name)),
-    }
 }
 
 /// A file to read: an option that there is not is no file.

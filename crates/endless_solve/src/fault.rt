@@ -1,5 +1,6 @@
 //! Why the program ends without an answer.
-use drawing::refusal::Refusal;
+use drawing::Unread;
+use endless::Refusal;
 use std::alloc::{AllocError, AllocFailed};
 use std::{fmt, io};
 
@@ -11,21 +12,8 @@ pub enum Fault {
     Output(String),
     /// `--output` is the last word.
     NoOutput,
-    /// The file cannot be opened or read.
-    Unread {
-        file: String,
-        error: io::Error,
-    },
-    /// The file is not UTF-8.
-    NotText {
-        file: String,
-    },
-    /// The file is no drawing of a game; the line that is refused.
-    Refused {
-        file: String,
-        refusal: Refusal,
-        line: String,
-    },
+    /// The file holds no drawing that can be read.
+    Unread { file: String, why: Unread },
     /// The solver refused the game, which it never does for a drawing.
     Unsolved,
     /// What is to be printed cannot be written.
@@ -42,6 +30,12 @@ impl From<AllocError> for Fault {
 impl<T: Drop> From<AllocFailed<T>> for Fault {
     fn from(_error: AllocFailed<T>) -> Fault {
         Fault::Memory
+    }
+}
+
+impl From<Refusal> for Fault {
+    fn from(_refusal: Refusal) -> Fault {
+        Fault::Unsolved
     }
 }
 
@@ -62,19 +56,7 @@ impl fmt::Display for Fault {
             Fault::NoOutput => f.write_str(
                 "--output wants a word behind it: places, answer, words or summary",
             ),
-            Fault::Unread { file, error } => write!(f, "{file}: {error}"),
-            Fault::NotText { file } => write!(f, "{file}: not UTF-8"),
-            Fault::Refused {
-                file,
-                refusal,
-                line,
-            } => {
-                write!(f, "{file}: {refusal}")?;
-                if line.is_empty() {
-                    return Ok(());
-                }
-                write!(f, "\n  {line}")
-            }
+            Fault::Unread { file, why } => write!(f, "{file}: {why}"),
             Fault::Unsolved => f.write_str("the solver refused the game"),
             Fault::Unwritten(error) => write!(f, "{error}"),
             Fault::Memory => f.write_str("out of memory"),

@@ -49,29 +49,20 @@ fn show(rt: &HostRuntime, file: &str, output: Output, several: bool) -> Result<(
     if several {
         println!(rt; "# {file}")?;
     }
+    let mut out = BufWriter::new(heap, rt.stdout())?;
+    let words = words.as_slice();
     match output {
-        Output::Summary => {
-            let mut out = BufWriter::new(heap, rt.stdout())?;
-            report::summary(&mut out, input::shown(file), words.as_slice())?;
-            out.flush()?;
-        }
-        Output::Words => {
-            let mut out = BufWriter::new(heap, rt.stdout())?;
-            report::words(&mut out, words.as_slice())?;
-            out.flush()?;
-        }
+        Output::Summary => report::summary(&mut out, input::shown(file), words)?,
+        Output::Words => report::words(&mut out, words)?,
         Output::Answer => {
-            let answer = solution::answer(heap, words.as_slice())?;
-            let mut out = BufWriter::new(heap, rt.stdout())?;
+            let answer = solution::answer(heap, words)?;
             report::answer(&mut out, answer.as_slice())?;
-            out.flush()?;
         }
         Output::Places => {
-            let answer = solution::answer(heap, words.as_slice())?;
-            let mut out = BufWriter::new(heap, rt.stdout())?;
-            report::places(heap, &mut out, &names, words.as_slice(), answer.as_slice())?;
-            out.flush()?;
+            let answer = solution::answer(heap, words)?;
+            report::places(&mut out, names.as_slice(), words, answer.as_slice())?;
         }
     }
+    out.flush()?;
     Ok(())
 }

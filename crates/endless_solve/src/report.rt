@@ -1,67 +1,88 @@
 //! What is printed of a game and its answer.
-use drawing::written;
+ghost use Rattle.std.specs.Prelude.{length};
+ghost use Rattle.std.specs.Iterator.{at_most};
+
+use drawing::Name;
 use endless::answer::{PlaceId, goes_to, won_by};
 use endless::place::Head;
 use endless::side::Side;
-use std::alloc::Global;
 use std::io;
 use std::io::Write;
 
-/// What a game has.
+/// A place as the words have it: its head, and all of its words.
 #[derive(Clone, Copy)]
-struct Size {
-    moves: usize,
-    even: usize,
-    odd: usize,
+struct Place<'a> {
+    head: Head,
+    words: &'a [u32],
+}
+
+/// The places of a game, one after the other.
+#[derive(Drop)]
+struct EachPlace<'a> {
+    rest: &'a [u32],
+}
+
+impl<'a> Iterator for EachPlace<'a> {
+    type Item = Place<'a>;
+
+    ghost remaining = { λ s. at_most (length s.rest.now) };
+
+    fn next(&mut self) -> Option<Place<'a>> {
+        let head = Head::read(self.rest)?;
+        let (words, rest) = self.rest.split_at_checked(head.moves as usize + 3)?;
+        self.rest = rest;
+        Some(Place { head, words })
+    }
+}
+
+/// The first word, which says how many places there are, and the places.
+fn split(words: &[u32]) -> (&[u32], EachPlace<'_>) {
+    let (first, rest) = words.split_at(words.len().min(1));
+    (first, EachPlace { rest })
 }
 
 /// A line for each place: its name, the side that wins it, and the name of its
 /// move, or `-` where the winner is not the one to move.
 pub(crate) fn places<W: Write>(
-    heap: Global,
     out: &mut W,
-    names: &Vec<String>,
+    names: &[String],
     words: &[u32],
     answer: &[u32],
 ) -> io::Result<()> {
-    let (_, mut rest) = words.split_at(words.len().min(1));
-    for (i, name) in names.iter().enumerate() {
-        let Some((here, behind)) = place(rest) else {
-            break;
-        };
-        place_line(heap, out, names, name.as_str(), here, i, answer)?;
-        rest = behind;
+    let (_, places) = split(words);
+    for ((name, place), at) in names.iter().zip(places).zip(0..) {
+        place_line(
+            out,
+            names,
+            Name(name.as_str()),
+            place.head,
+            PlaceId(at),
+            answer,
+        )?;
     }
     Ok(())
 }
 
 fn place_line<W: Write>(
-    heap: Global,
     out: &mut W,
-    names: &Vec<String>,
-    name: &str,
-    here: &[u32],
-    i: usize,
+    names: &[String],
+    name: Name<'_>,
+    head: Head,
+    at: PlaceId,
     answer: &[u32],
 ) -> io::Result<()> {
-    let at = PlaceId((i & 0xffff_ffff) as u32);
-    let (Some(head), Some(winner), Some(to)) = (
-        Head::read(here),
-        won_by(answer, at),
-        goes_to(answer, at),
-    ) else {
+    let (Some(winner), Some(to)) = (won_by(answer, at), goes_to(answer, at)) else {
         return Ok(());
     };
-    let shown = written(heap, name)?;
     let side = winner.0.to_word();
-    write!(out, "{shown} {side} ")?;
+    write!(out, "{name} {side} ")?;
     if head.whose != winner.0 {
         return out.write_all(b"-\n");
     }
     match names.get(to.0 as usize) {
         Some(target) => {
-            let shown = written(heap, target.as_str())?;
-            writeln!(out, "{shown}")
+            let target = Name(target.as_str());
+            writeln!(out, "{target}")
         }
         None => out.write_all(b"?\n"),
     }
@@ -73,6 +94,14 @@ pub(crate) fn answer<W: Write>(out: &mut W, answer: &[u32]) -> io::Result<()> {
         line(out, pair)?;
     }
     Ok(())
+}
+
+/// What a game has.
+#[derive(Clone, Copy, Default)]
+struct Size {
+    moves: usize,
+    even: usize,
+    odd: usize,
 }
 
 /// That the words are a game, and how many places each side has.
@@ -91,51 +120,26 @@ fn plural(n: usize) -> &'static str {
 
 /// The words: the first on a line of its own, then a line for each place.
 pub(crate) fn words<W: Write>(out: &mut W, words: &[u32]) -> io::Result<()> {
-    let (first, mut rest) = words.split_at(words.len().min(1));
+    let (first, places) = split(words);
     line(out, first)?;
-    for _ in 0..words.len() {
-        let Some((place, behind)) = place(rest) else {
-            break;
-        };
-        line(out, place)?;
-        rest = behind;
+    for place in places {
+        line(out, place.words)?;
     }
     Ok(())
 }
 
 /// How many moves there are, and how many places of each side.
 fn measure(words: &[u32]) -> Size {
-    let mut size = Size {
-        moves: 0,
-        even: 0,
-        odd: 0,
-    };
-    let (_, mut rest) = words.split_at(words.len().min(1));
-    for _ in 0..words.len() {
-        let Some(head) = Head::read(rest) else {
-            break;
-        };
-        size.moves = size.moves.saturating_add(head.moves as usize);
-        match head.whose {
+    let mut size = Size::default();
+    let (_, places) = split(words);
+    for place in places {
+        size.moves = size.moves.saturating_add(place.head.moves as usize);
+        match place.head.whose {
             Side::Even => size.even = size.even.saturating_add(1),
             Side::Odd => size.odd = size.odd.saturating_add(1),
         }
-        let Some((_, behind)) = place(rest) else {
-            break;
-        };
-        rest = behind;
     }
     size
-}
-
-/// The words of the place that `words` starts at, and what stands behind.
-fn place(words: &[u32]) -> Option<(&[u32], &[u32])> {
-    let head = Head::read(words)?;
-    let end = head.moves as usize + 3;
-    if words.len() < end {
-        return None;
-    }
-    Some(words.split_at(end))
 }
 
 /// Words on a line, with a blank between them.

@@ -1,9 +1,5 @@
 use Rattle.drawing.proofs.Wrongs.{answered}
 use Rattle.drawing.proofs.read.Goals as goal
 
-pub returns : goal.returns
-returns c = record {
-  answers = c.read_lines.ensures.answers;
-  drawn = c.read_lines.ensures.drawn;
-  wrong = answered c.args.text.now c.read_lines.result c.read_lines.ensures.answers;
-}
+pub returns-clause-wrong : goal.returns-clause-wrong
+returns-clause-wrong c = answered c.args.text.now c.read_lines.result c.read_lines.ensures.answers

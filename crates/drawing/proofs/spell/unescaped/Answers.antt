@@ -1,8 +1,7 @@
-use Rattle.std.proofs.Common.{◌≡◌, false, string_bytes}
-use Rattle.std.proofs.lemmas.Result.{IfOk-from_err}
+use Rattle.std.proofs.Common.{false, string_bytes}
 use Rattle.std.specs.Str.Iter.{chars_rest}
 use Rattle.drawing.specs.Form.{plain}
-use Rattle.drawing.proofs.Spells.{plain_pushed, plain_passed, plain_over}
+use Rattle.drawing.proofs.Spells.{plain_pushed, plain_passed}
 use Rattle.drawing.proofs.spell.unescaped.Goals as goal
 
 pub loop-c-preserved-in-Continue-1 : goal.loop-c-preserved-in-Continue-1
@@ -10,9 +9,3 @@ loop-c-preserved-in-Continue-1 c = plain_pushed (plain false c.args.raw.now) (st
 
 pub loop-c-preserved : goal.loop-c-preserved
 loop-c-preserved c = plain_passed (plain false c.args.raw.now) (string_bytes c.loop-c.name) (chars_rest c.loop-c.c-iterator) _ c.loop-c.invariant c.in-Some.c _ _ c.in-Some.ensures.steps.0 c.is_escape-escaped.ensures c.if-not-escaped.false
-
-pub returns : goal.returns
-returns c = plain_over (plain false c.args.raw.now) (string_bytes c.loop-c.name) (chars_rest c.loop-c.c-iterator) _ c.loop-c.invariant c.in-None.ensures.steps.0.0
-
-pub returns-in_err-push : goal.returns-in_err-push
-returns-in_err-push c = IfOk-from_err c.from_residual.result (λ s. string_bytes s ≡ plain false c.args.raw.now) c.from_residual.ensures.0

@@ -1,15 +1,10 @@
-use Rattle.std.proofs.Common.{◌≡◌, ◌+◌, ◌≤◌, [], ◌∷◌, length, vec_items}
-use denote.Text.{Utf8}
-use denote.Shadow.{shadow}
+use Rattle.std.proofs.Common.{◌≡◌, ◌≤◌, suc, [], ◌∷◌, length, drop}
 use Rattle.drawing.specs.Reading.{lines, word_lines}
-use Rattle.drawing.specs.Table.{texts}
 use Rattle.drawing.proofs.write.write_words.Given as goal
 
--- says that each `&str` the loop changes is text: keep it, and add clauses with ×
-abbrev pub invariant-loop-words : goal.invariant-loop-words
-invariant-loop-words l =
-    shadow (Utf8 l.rest) × (l.used ≤ 64000) × (l.number + length l.rest ≤ length l.text + 1)
-    × (word_lines l.number (texts l.names) l.used (vec_items l.words) (lines l.rest) ≡ word_lines 1 (texts l.names) 0 (length (texts l.names) ∷ []) (lines l.text))
-
-abbrev pub decreases-loop-words : goal.decreases-loop-words
-decreases-loop-words l = length l.rest
+-- the words so far and the lines left give what all lines give
+abbrev pub invariant-loop-i : goal.invariant-loop-i
+invariant-loop-i l = record {
+  few : l.used ≤ 64000;
+  so_far : word_lines (suc (length l.yielded)) l.names l.used l.words.items (drop (length l.yielded) (lines l.text)) ≡ word_lines 1 l.names 0 (length l.names ∷ []) (lines l.text);
+}
