@@ -1,63 +1,22 @@
 -- Priorities are made smaller one after the other, from the least.
-use Rattle.std.proofs.Common.{◌≡◌, ℕ, ◌+◌, ◌%◌, ◌<◌, ◌≤◌, cond, eqb, ◌⊎◌, List, length, get_or, set, Some, None, Option, sym, refl, ap, ◌∙◌, subst, inl, inr, ⊎_elim, arith}
-use Rattle.std.proofs.lemmas.List.{length-set, get_or-set_same, get_or-set_other}
+use Rattle.std.proofs.Common.{◌≡◌, ℕ, ◌+◌, ◌%◌, ◌<◌, ◌≤◌, Bool, true, false, cond, eqb, ◌⊎◌, List, [], length, get_or, Some, None, Option, sym, refl, ap, ◌∙◌, subst, inl, inr, ⊎_elim, arith}
+use Rattle.std.specs.BTreeMap.{BTreeMap, get, is_at, Updates, IsLowerBound}
+use Rattle.std.specs.Map.{lookup}
+use Rattle.std.specs.Option.{is_some, IsSome, unwrap_or}
+use Rattle.std.specs.Ordering.{nat_cmp}
+use Rattle.std.specs.Prelude.{All}
+use Rattle.std.proofs.lemmas.List.{length-map, get_or-map, nil_from_length}
+use Rattle.std.proofs.lemmas.List.Elements.{All-from_get_or}
+use Rattle.std.proofs.lemmas.Map.Keys.{le_from_not_gt}
 use Rattle.std.proofs.lemmas.Bool.{cond-true, cond-false, ne_eqb, eq-eqb, cases_lt, cases_eq}
-use Rattle.pgsolver.specs.Weights.{Least, Marks, Below, Keeps}
+use Rattle.pgsolver.specs.Table.{Finds, Locates}
+use Rattle.pgsolver.specs.Weights.{Below, Keeps, NoRoom, weight_of, weights_by}
+use Rattle.pgsolver.proofs.Looking.{apart_at}
 
--- the least from the bound on among the first n; where there is none, it is 2 ^ 32
-abbrev pub Best : List ℕ → ℕ → ℕ → ℕ → Option ℕ → Type 0
-Best ps bound n least None = (least ≡ 4294967296) × ((i : ℕ) → i < n → get_or ps i 0 < bound)
-Best ps bound n least (Some m) = (m < n) × (least ≡ get_or ps m 0) × (bound ≤ least) × ((i : ℕ) → i < n → bound ≤ get_or ps i 0 → least ≤ get_or ps i 0)
-
-module _ (ps : List ℕ) (bound n least : ℕ) where
-  below_or : (i : ℕ) → i < n + 1 → (i < n) ⊎ (i ≡ n)
-  below_or i h = ⊎_elim (λ l. inl l) (λ l. inr (omega arith)) (cases_lt i n)
-
-  pub best_low : (o : Option ℕ) → Best ps bound n least o → get_or ps n 0 < bound → Best ps bound (n + 1) least o
-  best_low None b h = (b.0, λ i l. ⊎_elim (λ k. b.1 i k) (λ e. rw e h) (below_or i l))
-  best_low (Some m) b h = (omega (arith, b.0), b.1, b.2, λ i l k. ⊎_elim (λ j. b.3 i j k) (λ e. absurd (omega (arith, h, k, ap (λ m. get_or ps m 0) e))) (below_or i l))
-
-  pub best_high : (o : Option ℕ) → Best ps bound n least o → get_or ps n 0 < 4294967296 → least ≤ get_or ps n 0 → Best ps bound (n + 1) least o
-  best_high None b h k = absurd (omega (arith, b.0, h, k))
-  best_high (Some m) b h k = (omega (arith, b.0), b.1, b.2, λ i l j. ⊎_elim (λ q. b.3 i q j) (λ e. omega (arith, k, ap (λ m. get_or ps m 0) e)) (below_or i l))
-
-  pub best_new : (o : Option ℕ) → Best ps bound n least o → bound ≤ get_or ps n 0 → get_or ps n 0 < least → Best ps bound (n + 1) (get_or ps n 0) (Some n)
-  best_new None b h k = (omega arith, refl, h, λ i l j. ⊎_elim (λ q. absurd (omega (arith, b.1 i q, j))) (λ e. omega (arith, ap (λ m. get_or ps m 0) e)) (below_or i l))
-  best_new (Some m) b h k = (omega arith, refl, h, λ i l j. ⊎_elim (λ q. omega (arith, b.3 i q j, k)) (λ e. omega (arith, ap (λ m. get_or ps m 0) e)) (below_or i l))
-
-  pub best_all : (o : Option ℕ) → Best ps bound n least o → n ≡ length ps → Least ps bound o
-  best_all None b e = λ i l. b.1 i (omega (arith, e, l))
-  best_all (Some m) b e = (omega (arith, b.0, e), omega (arith, b.1, b.2), λ i l k. omega (arith, b.1, b.3 i (omega (arith, e, l)) k))
-
--- the first n are marked
-pub record MarkedTo (ps : List ℕ) (p w : ℕ) (old new : List ℕ) (n : ℕ) : Type 0 where
+-- the weight is written where the priority stands, and nowhere else
+pub record Marks (ps : List ℕ) (p w : ℕ) (old new : List ℕ) : Type 0 where
   pub long : length new ≡ length old
-  pub done : (i : ℕ) → i < n → get_or new i 0 ≡ cond (eqb (get_or ps i 0) p) w (get_or old i 0)
-  pub left : (i : ℕ) → n ≤ i → get_or new i 0 ≡ get_or old i 0
-
-pub marked_none : (ps : List ℕ) (p w : ℕ) (old : List ℕ) → MarkedTo ps p w old old 0
-marked_none ps p w old = record { long = refl; done = λ i l. absurd (omega arith); left = λ i l. refl }
-
-module _ (ps : List ℕ) (p w : ℕ) (old new : List ℕ) (n : ℕ) (s : MarkedTo ps p w old new n) where
-  up : (i : ℕ) → i < n + 1 → (i < n) ⊎ (i ≡ n)
-  up i h = ⊎_elim (λ l. inl l) (λ l. inr (omega arith)) (cases_lt i n)
-
-  pub marked_skip : (get_or ps n 0 ≡ p → ⊥) → MarkedTo ps p w old new (n + 1)
-  marked_skip h = record {
-    long = s.long;
-    done = λ i l. ⊎_elim (λ k. s.done i k) (λ e. s.left i (omega (arith, e)) ∙ sym (cond-false _ _ _ (ne_eqb (get_or ps i 0) p (λ q. h (ap (λ m. get_or ps m 0) (sym e) ∙ q))))) (up i l);
-    left = λ i l. s.left i (omega (arith, l));
-  }
-
-  pub marked_set : n < length old → get_or ps n 0 ≡ p → MarkedTo ps p w old (set new n w) (n + 1)
-  marked_set l h = record {
-    long = length-set new n w ∙ s.long;
-    done = λ i k. ⊎_elim (λ j. get_or-set_other new n i w 0 (λ e. absurd (omega (arith, e, j))) ∙ s.done i j) (λ e. subst (λ m. get_or (set new n w) m 0 ≡ cond (eqb (get_or ps m 0) p) w (get_or old m 0)) (sym e) (get_or-set_same new n w 0 (omega (arith, l, s.long)) ∙ sym (cond-true _ _ _ (eq-eqb (get_or ps n 0) p h)))) (up i k);
-    left = λ i k. get_or-set_other new n i w 0 (λ e. absurd (omega (arith, e, k))) ∙ s.left i (omega (arith, k));
-  }
-
-  pub marked_all : length ps ≤ n → Marks ps p w old new
-  marked_all l = record { long = s.long; each = λ i k. s.done i (omega (arith, l, k)) }
+  pub each : (i : ℕ) → i < length ps → get_or new i 0 ≡ cond (eqb (get_or ps i 0) p) w (get_or old i 0)
 
 -- the priorities below the bound have weights below the lowest that is left
 pub record Spread (ps ws : List ℕ) (bound lowest : ℕ) : Type 0 where
@@ -151,3 +110,85 @@ spread_all ps ws bound lowest s all = (
 
 pub keeps_same : (ps : List ℕ) → Keeps ps ps
 keeps_same ps = record { long = refl; odd = λ i l. refl; rises = λ i j l k h. h; same = λ i j l k e. e }
+
+some_at : (ps : List ℕ) (i : ℕ) → i < length ps → (o : Option ℕ) → Finds ps (get_or ps i 0) o → IsSome o
+some_at ps i l None h = absurd (h i l refl)
+some_at ps i l (Some v) h = refl
+
+-- the weights up to some bound are in the map, and where the priorities from there on stand is left
+pub record Spreading (ps : List ℕ) (m left : BTreeMap ℕ ℕ) (lowest : ℕ) : Type 0 where
+  pub bound : ℕ
+  pub spread : Spread ps (weights_by m ps) bound lowest
+  pub some : (i : ℕ) → i < length ps → get_or ps i 0 < bound → IsSome (get nat_cmp m (get_or ps i 0))
+  pub stands : (x v : ℕ) → get nat_cmp left x ≡ Some v → (bound ≤ x) × (v < length ps) × (get_or ps v 0 ≡ x)
+  pub all : (i : ℕ) → i < length ps → bound ≤ get_or ps i 0 → IsSome (get nat_cmp left (get_or ps i 0))
+
+pub spreading_first : (ps : List ℕ) (m left : BTreeMap ℕ ℕ) → Locates left ps → Spreading ps m left 0
+spreading_first ps m left h = record {
+  bound = 0;
+  spread = spread_none ps (weights_by m ps) (sym (length-map ps (weight_of m)));
+  some = λ i l k. absurd (omega arith);
+  stands = λ x v e. let t = subst (Finds ps x) e (h x) in (omega arith, t.0, t.1);
+  all = λ i l k. some_at ps i l (get nat_cmp left (get_or ps i 0)) (h (get_or ps i 0));
+}
+
+module _ (ps : List ℕ) (m left : BTreeMap ℕ ℕ) (lowest : ℕ) (s : Spreading ps m left lowest) (p at : ℕ) (value : get nat_cmp left p ≡ Some at) (low : IsLowerBound nat_cmp left p) (w : ℕ) (is : w ≡ lowest + (p % 2 + lowest) % 2) where
+  least : (i : ℕ) → i < length ps → s.bound ≤ get_or ps i 0 → p ≤ get_or ps i 0
+  least i l b = le_from_not_gt p (get_or ps i 0) (low (get_or ps i 0) (s.all i l b))
+
+  here : (s.bound ≤ p) × (at < length ps) × (get_or ps at 0 ≡ p)
+  here = s.stands p at value
+
+  from : s.bound ≤ get_or ps at 0
+  from = omega (arith, here.0, here.2)
+
+  first : (i : ℕ) → i < length ps → s.bound ≤ get_or ps i 0 → get_or ps at 0 ≤ get_or ps i 0
+  first i l b = omega (arith, least i l b, here.2)
+
+  pub spreading_full : 256 ≤ w → NoRoom ps at
+  spreading_full h = spread_full ps (weights_by m ps) s.bound lowest s.spread at here.1 from first p w (sym here.2) is h
+
+  module _ (fits : w < 256) (m2 left2 : BTreeMap ℕ ℕ) (new : Updates nat_cmp m m2 p (Some w)) (gone : Updates nat_cmp left left2 p None) where
+    updated : (x : ℕ) → weight_of m2 x ≡ cond (eqb x p) w (weight_of m x)
+    updated x =
+        ⊎_elim
+        (λ e. subst (λ y. weight_of m2 y ≡ cond (eqb y p) w (weight_of m y)) e (ap (λ o. unwrap_or o 0) new.1 ∙ sym (cond-true _ _ _ (eq-eqb p p refl))))
+        (λ ne. ap (λ o. unwrap_or o 0) (new.2 x (apart_at p x ne)) ∙ sym (cond-false _ _ _ (ne_eqb x p (λ e. ne (sym e)))))
+        (cases_eq p x)
+
+    marks : Marks ps p w (weights_by m ps) (weights_by m2 ps)
+    marks = record {
+      long = length-map ps (weight_of m2) ∙ sym (length-map ps (weight_of m));
+      each = λ i l. get_or-map (weight_of m2) ps i 0 0 l ∙ updated (get_or ps i 0) ∙ ap (λ v. cond (eqb (get_or ps i 0) p) w v) (sym (get_or-map (weight_of m) ps i 0 0 l));
+    }
+
+    kept : (x : ℕ) → (p ≡ x → ⊥) → IsSome (get nat_cmp m x) → IsSome (get nat_cmp m2 x)
+    kept x ne h = subst IsSome (sym (new.2 x (apart_at p x ne))) h
+
+    stands_at : (x v : ℕ) → (p ≡ x) ⊎ (p ≡ x → ⊥) → get nat_cmp left2 x ≡ Some v → (p + 1 ≤ x) × (v < length ps) × (get_or ps v 0 ≡ x)
+    stands_at x v (inl e) h = absurd (let z : ◌≡◌ {A = Option ℕ} None (Some v) = sym (subst (λ y. get nat_cmp left2 y ≡ None) e gone.1) ∙ h in cc)
+    stands_at x v (inr ne) h =
+        let t = s.stands x v (sym (gone.2 x (apart_at p x ne)) ∙ h) in
+        (omega (arith, ne, least v t.1 (omega (arith, t.0, t.2)), t.2), t.1, t.2)
+
+    pub spreading_more : Spreading ps m2 left2 (w + 1)
+    spreading_more = record {
+      bound = p + 1;
+      spread = spread_more ps (weights_by m ps) s.bound lowest s.spread at here.1 from first p w (sym here.2) is fits (weights_by m2 ps) marks;
+      some = λ i l h. ⊎_elim
+          (λ e. subst (λ y. IsSome (get nat_cmp m2 y)) e (ap is_some new.1))
+          (λ ne. kept (get_or ps i 0) ne (s.some i l (⊎_elim (λ k. k) (λ k. absurd (ne (omega (arith, least i l k, h)))) (cases_lt (get_or ps i 0) s.bound))))
+          (cases_eq p (get_or ps i 0));
+      stands = λ x v h. stands_at x v (cases_eq p x) h;
+      all = λ i l h. subst IsSome (sym (gone.2 (get_or ps i 0) (apart_at p (get_or ps i 0) (λ e. omega (arith, e, h))))) (s.all i l (omega (arith, here.0, h)));
+    }
+
+pub spreading_all : (ps : List ℕ) (m left : BTreeMap ℕ ℕ) (lowest : ℕ) → Spreading ps m left lowest → length left.entries ≡ 0 → All (λ p. IsSome (get nat_cmp m p)) ps × Keeps ps (weights_by m ps) × Below 256 (weights_by m ps)
+spreading_all ps m left lowest s e =
+    let none : left.entries ≡ [] = nil_from_length left.entries e in
+    let under : (i : ℕ) → i < length ps → get_or ps i 0 < s.bound = λ i l. ⊎_elim
+    (λ k. k)
+    (λ k. absurd (let z : ◌≡◌ {A = Bool} false true = sym (ap (λ es. is_some (lookup (is_at (nat_cmp (get_or ps i 0))) es)) none) ∙ s.all i l k in cc))
+    (cases_lt (get_or ps i 0) s.bound) in
+    let t = spread_all ps (weights_by m ps) s.bound lowest s.spread under in
+    (All-from_get_or (λ p. IsSome (get nat_cmp m p)) ps 0 (λ i l. s.some i l (under i l)), t.0, t.1)

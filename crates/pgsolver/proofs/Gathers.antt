@@ -1,6 +1,6 @@
 -- Nodes are read one after the other.
-use Rattle.std.proofs.Common.{◌≡◌, ℕ, zero, suc, ◌<◌, ◌≤◌, cond, ltb, List, [], ◌∷◌, ◌++◌, map, length, Ok, Err, vec_items, Result, sym, refl, ap, ◌∙◌, arith}
-use Rattle.std.proofs.lemmas.List.{length-map, map_push, flat_map_more}
+use Rattle.std.proofs.Common.{◌≡◌, ℕ, zero, suc, ◌+◌, ◌<◌, ◌≤◌, cond, ltb, List, [], ◌∷◌, ◌++◌, length, Ok, Err, Result, sym, refl, ap, ◌∙◌, arith}
+use Rattle.std.proofs.lemmas.List.{length-append, flat_map_more}
 use Rattle.std.proofs.lemmas.Bool.{cond-true, cond-false, lt-ltb, le-ltb}
 use Rattle.pgsolver.specs.declared.refusal.Fault.TheVariants.{TooManyNodes}
 use Rattle.pgsolver.specs.declared.refusal.Slip.{Slip}
@@ -8,21 +8,27 @@ use Rattle.pgsolver.specs.declared.refusal.Stop.{Stop}
 use Rattle.pgsolver.specs.declared.refusal.Stop.TheVariants.{At, Memory}
 use Rattle.pgsolver.specs.Read.{Stops}
 use Rattle.pgsolver.specs.declared.node.Head.{Head}
-use Rattle.pgsolver.specs.declared.text.Nodes.{Nodes}
 use Rattle.pgsolver.specs.Form.{skip, slip, and_then, head, goals, tail, name, Entry, node, all_goes, nodes_on, nodes_in, nodes}
-use Rattle.pgsolver.specs.Held.{texts, node_of, Empty, More, Holds}
+use Rattle.pgsolver.proofs.Fines.{node_goes}
 use Rattle.pgsolver.proofs.Lengths.{skip_le, node_less}
 
-pub record LeftNodes (text : List ℕ) (n : Nodes) (rest : List ℕ) : Type 0 where
+-- the nodes that are read, how many successors they use, and what is left of the text
+pub record LeftNodes (text : List ℕ) (read : List Entry) (used : ℕ) (rest : List ℕ) : Type 0 where
   pub fuel : ℕ
-  pub read : List Entry
   pub enough : length rest < fuel
-  pub holds : Holds n read
+  pub few : used ≤ 64000
+  pub counted : used ≡ length (all_goes read)
   pub same : nodes_in fuel read rest ≡ nodes text
 
-pub nodes_first : (text : List ℕ) (n : Nodes) → Empty n → LeftNodes text n text
+pub nodes_first : (text : List ℕ) (read : List Entry) → read ≡ [] → LeftNodes text read 0 text
 unfolding nodes
-nodes_first text n e = record { fuel = suc (length text); read = []; enough = omega arith; holds = record { nodes = e.nodes; priorities = e.priorities; goals = e.goals; names = e.names }; same = refl }
+nodes_first text read e = record {
+  fuel = suc (length text);
+  enough = omega arith;
+  few = omega arith;
+  counted = sym (ap (λ l. length (all_goes l)) e);
+  same = ap (λ l. nodes_in (suc (length text)) l text) e;
+}
 
 on_none : (more : List ℕ → Result (List Entry) Slip) (acc : List Entry) (bs : List ℕ) → length bs ≡ 0 → nodes_on more acc bs ≡ Ok acc
 on_none more acc [] h = refl
@@ -32,7 +38,10 @@ on_some : (more : List ℕ → Result (List Entry) Slip) (acc : List Entry) (bs 
 on_some more acc [] h = absurd (h refl)
 on_some more acc (b ∷ bs) h = refl
 
-module _ (text : List ℕ) (n : Nodes) (rest : List ℕ) (s : LeftNodes text n rest) (here : List ℕ) (at : here ≡ skip rest) where
+goes_push : (es : List Entry) (e : Entry) → length (all_goes (es ++ (e ∷ []))) ≡ length (all_goes es) + length e.goes
+goes_push es e = ap length (sym (flat_map_more (λ e. e.goes) [] es e)) ∙ length-append (all_goes es) e.goes
+
+module _ (text : List ℕ) (read : List Entry) (used : ℕ) (rest : List ℕ) (s : LeftNodes text read used rest) (here : List ℕ) (at : here ≡ skip rest) where
   abbrev Spent : Type 0
   Spent = (m : ℕ) × (s.fuel ≡ suc m)
 
@@ -43,57 +52,39 @@ module _ (text : List ℕ) (n : Nodes) (rest : List ℕ) (s : LeftNodes text n r
       from zero e = absurd (omega (arith, s.enough))
       from (suc m) e = (m, e)
 
-  abbrev onward : List ℕ → Result (List Entry) Slip
-  onward here = cond (ltb (length s.read) 16384) (and_then (node (length (all_goes s.read)) here) (λ p. nodes_in spend.0 (s.read ++ (p.0 ∷ [])) p.1)) (Err (slip TooManyNodes here))
+  abbrev onward : ℕ → List ℕ → Result (List Entry) Slip
+  onward used here = cond (ltb (length read) 16384) (and_then (node used here) (λ p. nodes_in spend.0 (read ++ (p.0 ∷ [])) p.1)) (Err (slip TooManyNodes here))
 
-  opened : nodes text ≡ nodes_on onward s.read here
+  opened : nodes text ≡ nodes_on (onward used) read here
   unfolding nodes_in
-  opened = sym s.same ∙ ap (λ m. nodes_in m s.read rest) spend.1 ∙ ap (nodes_on onward s.read) (sym at)
+  opened = sym s.same ∙ ap (λ m. nodes_in m read rest) spend.1 ∙ ap (nodes_on (onward (length (all_goes read))) read) (sym at) ∙ ap (λ u. nodes_on (onward u) read here) (sym s.counted)
 
-  many : length (vec_items n.nodes) ≡ length s.read
-  many = ap length s.holds.nodes ∙ length-map s.read (λ e. node_of e.first (length e.goes) e.left)
-
-  pub nodes_all : length here ≡ 0 → nodes text ≡ Ok s.read
-  nodes_all h = opened ∙ on_none onward s.read here h
+  pub nodes_all : length here ≡ 0 → nodes text ≡ Ok read
+  nodes_all h = opened ∙ on_none (onward used) read here h
 
   module _ (some : length here ≡ 0 → ⊥) where
-    pub nodes_many : 16384 ≤ length (vec_items n.nodes) → nodes text ≡ Err (record { fault = TooManyNodes; left = length here })
-    nodes_many l = opened ∙ on_some onward s.read here some ∙ cond-false _ _ _ (le-ltb (length s.read) 16384 (omega (arith, many)))
+    pub nodes_many : 16384 ≤ length read → nodes text ≡ Err (slip TooManyNodes here)
+    nodes_many l = opened ∙ on_some (onward used) read here some ∙ cond-false _ _ _ (le-ltb (length read) 16384 l)
 
-    module _ (few : length (vec_items n.nodes) < 16384) where
-      going : nodes text ≡ and_then (node (length (vec_items n.goals)) here) (λ p. nodes_in spend.0 (s.read ++ (p.0 ∷ [])) p.1)
-      going = opened ∙ on_some onward s.read here some ∙ cond-true _ _ _ (lt-ltb (length s.read) 16384 (omega (arith, many))) ∙ ap (λ l. and_then (node (length l) here) (λ p. nodes_in spend.0 (s.read ++ (p.0 ∷ [])) p.1)) (sym s.holds.goals)
+    module _ (few : length read < 16384) where
+      going : nodes text ≡ and_then (node used here) (λ p. nodes_in spend.0 (read ++ (p.0 ∷ [])) p.1)
+      going = opened ∙ on_some (onward used) read here some ∙ cond-true _ _ _ (lt-ltb (length read) 16384 few)
 
-      pub nodes_slip : (e : Slip) → node (length (vec_items n.goals)) here ≡ Err e → nodes text ≡ Err e
-      nodes_slip e h = going ∙ ap (λ x. and_then x (λ p. nodes_in spend.0 (s.read ++ (p.0 ∷ [])) p.1)) h
+      pub nodes_slip : (e : Slip) → node used here ≡ Err e → nodes text ≡ Err e
+      nodes_slip e h = going ∙ ap (λ x. and_then x (λ p. nodes_in spend.0 (read ++ (p.0 ∷ [])) p.1)) h
 
-      module _ (e : Entry) (next : List ℕ) (h : node (length (vec_items n.goals)) here ≡ Ok (e, next)) where
+      module _ (e : Entry) (next : List ℕ) (h : node used here ≡ Ok (e, next)) where
         pub nodes_less : length next < length rest
-        nodes_less = omega (arith, node_less (length (vec_items n.goals)) here e next h, ap length at, skip_le rest)
+        nodes_less = omega (arith, node_less used here e next h, ap length at, skip_le rest)
 
-        pub nodes_more : (new : Nodes) → ((es : List Entry) → Holds n es → Holds new (es ++ (e ∷ []))) → LeftNodes text new next
-        nodes_more new f = record {
+        pub nodes_more : (longer : List Entry) → longer ≡ read ++ (e ∷ []) → LeftNodes text longer (used + length e.goes) next
+        nodes_more longer more = record {
           fuel = spend.0;
-          read = s.read ++ (e ∷ []);
           enough = omega (arith, nodes_less, s.enough, spend.1);
-          holds = f s.read s.holds;
-          same = sym (going ∙ ap (λ x. and_then x (λ p. nodes_in spend.0 (s.read ++ (p.0 ∷ [])) p.1)) h);
+          few = (node_goes used here e next h).1;
+          counted = omega (arith, ap (λ l. length (all_goes l)) more, goes_push read e, s.counted);
+          same = ap (λ l. nodes_in spend.0 l next) more ∙ sym (going ∙ ap (λ x. and_then x (λ p. nodes_in spend.0 (read ++ (p.0 ∷ [])) p.1)) h);
         }
-
-joined_push : (es : List Entry) (e : Entry) → all_goes (es ++ (e ∷ [])) ≡ all_goes es ++ e.goes
-joined_push es e = sym (flat_map_more (λ e. e.goes) [] es e)
-
--- a node whose successors are behind the others is one entry more
-pub holds_more : (old mid new : Nodes) (h : Head) (count left : ℕ) (name own : List ℕ) → vec_items mid.nodes ≡ vec_items old.nodes → vec_items mid.priorities ≡ vec_items old.priorities → texts mid ≡ texts old → vec_items mid.goals ≡ vec_items old.goals ++ own → count ≡ length own → More mid new h count left name →
-    (es : List Entry) → Holds old es → Holds new (es ++ (record { first = h; left = left; goes = own; named = name } ∷ []))
-holds_more old mid new h count left name own a b c d k m es s =
-    let e : Entry = record { first = h; left = left; goes = own; named = name } in
-    record {
-      nodes = m.nodes ∙ ap (λ l. l ++ (node_of h count left ∷ [])) (a ∙ s.nodes) ∙ ap (λ i. map (λ e. node_of e.first (length e.goes) e.left) es ++ (node_of h i left ∷ [])) k ∙ sym (map_push (λ e. node_of e.first (length e.goes) e.left) es e);
-      priorities = m.priorities ∙ ap (λ l. l ++ (h.priority ∷ [])) (b ∙ s.priorities) ∙ sym (map_push (λ e. e.first.priority) es e);
-      goals = m.goals ∙ d ∙ ap (λ l. l ++ own) s.goals ∙ sym (joined_push es e);
-      names = m.names ∙ ap (λ l. l ++ (name ∷ [])) (c ∙ s.names) ∙ sym (map_push (λ e. e.named) es e);
-    }
 
 -- where one part stops, so does the whole
 pub stops_on : {A B : Type 0} (x : Result A Slip) (y : Result B Slip) → ((e : Slip) → x ≡ Err e → y ≡ Err e) → (t : Stop) → Stops x t → Stops y t

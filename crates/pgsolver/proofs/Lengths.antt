@@ -1,20 +1,18 @@
 -- What is left of a text is shorter than it.
-use Rattle.std.proofs.Common.{◌≡◌, ℕ, zero, suc, ◌+◌, ◌-◌, ◌*◌, ◌<◌, ◌≤◌, Bool, true, false, cond, eqb, ltb, List, [], ◌∷◌, ◌++◌, length, take, drop, Some, None, Ok, Err, Option, Result, sym, refl, ap, arith}
+use Rattle.std.proofs.Common.{◌≡◌, ℕ, zero, suc, ◌+◌, ◌-◌, ◌*◌, ◌<◌, ◌≤◌, Bool, true, false, cond, eqb, ltb, List, [], ◌∷◌, ◌++◌, length, drop, Some, None, Ok, Err, Option, Result, sym, refl, ap, arith, ◌⊎◌, inl, inr, ⊎_elim}
 use Rattle.std.specs.Char.{is_ascii_digit}
+use Rattle.std.specs.List.{prefix_len, position}
+use Rattle.endless.specs.declared.side.Side.{Side}
 use Rattle.pgsolver.specs.declared.refusal.Fault.{Fault}
-use Rattle.pgsolver.specs.declared.refusal.Fault.TheVariants.{Large, Number, Owner, NoSuccessor, Quote, TooManyMoves}
+use Rattle.pgsolver.specs.declared.refusal.Fault.TheVariants.{Large, Number, NoSuccessor, TooManyMoves}
 use Rattle.pgsolver.specs.declared.refusal.Slip.{Slip}
 use Rattle.pgsolver.specs.declared.node.Head.{Head}
-use Rattle.pgsolver.specs.Form.{blank, skip, slip, and_then, behind_at, behind, digits, numeral, number, owner_of, owner, head, goals_on, goals_in, goals, quote_index, name_on, name, ended_on, ended, tail, Entry, node}
+use Rattle.pgsolver.specs.Form.{blank, skip, slip, and_then, starts, behind, digits, numeral, number, side_of, owner_on, owner_of, owner, head, goals_on, goals_in, goals, name_up_to, name_on, name, ended_on, ended, tail, Entry, node}
+use Rattle.std.proofs.lemmas.Bool.{ltb-true}
 use Rattle.std.proofs.lemmas.List.{length-drop}
 
 pub skip_le : (bs : List ℕ) → length (skip bs) ≤ length bs
-skip_le [] = omega arith
-skip_le (b ∷ bs) = at (skip_le bs) (blank b)
-  where
-    at : length (skip bs) ≤ length bs → (t : Bool) → length (cond t (skip bs) (b ∷ bs)) ≤ suc (length bs)
-    at l true = omega arith
-    at l false = omega arith
+skip_le bs = omega (arith, length-drop (prefix_len blank bs) bs)
 
 pub ok_is : {A E : Type 0} {x y : A} → ◌≡◌ {A = Result A E} (Ok x) (Ok y) → x ≡ y
 ok_is e = cc
@@ -49,37 +47,52 @@ numeral_less f (b ∷ bs) n r h = at (is_ascii_digit b) refl h
 pub number_less : (f : Fault) (bs : List ℕ) (n : ℕ) (r : List ℕ) → number f bs ≡ Ok (n, r) → length r < length bs
 number_less f bs n r h = omega (arith, numeral_less f (skip bs) n r h, skip_le bs)
 
-behind_at_less : (c : ℕ) (bs r : List ℕ) → behind_at c bs ≡ Some r → length r < length bs
-behind_at_less c [] r h = absurd (let z : ◌≡◌ {A = ℕ} 0 1 = cc in omega arith)
-behind_at_less c (b ∷ bs) r h = at (eqb b c) h
+starts_le : (ws bs r : List ℕ) → starts ws bs ≡ Some r → length r + length ws ≤ length bs
+starts_le [] bs r h = let e : bs ≡ r = cc in rw (sym e) (omega arith)
+starts_le (w ∷ ws) [] r h = absurd (let z : ◌≡◌ {A = ℕ} 0 1 = cc in omega arith)
+starts_le (w ∷ ws) (b ∷ bs) r h = at (λ k. starts_le ws bs r k) (eqb b w) h
   where
-    at : (t : Bool) → cond t (Some bs) None ≡ Some r → length r < suc (length bs)
-    at true k = let e : bs ≡ r = cc in rw (sym e) (omega arith)
-    at false k = absurd (let z : ◌≡◌ {A = ℕ} 0 1 = cc in omega arith)
+    at : (starts ws bs ≡ Some r → length r + length ws ≤ length bs) → (t : Bool) → cond t (starts ws bs) None ≡ Some r → length r + suc (length ws) ≤ suc (length bs)
+    at rec true k = omega (arith, rec k)
+    at rec false k = absurd (let z : ◌≡◌ {A = ℕ} 0 1 = cc in omega arith)
 
-pub behind_less : (c : ℕ) (bs r : List ℕ) → behind c bs ≡ Some r → length r < length bs
-behind_less c bs r h = omega (arith, behind_at_less c (skip bs) r h, skip_le bs)
+pub behind_less : (c : ℕ) (bs r : List ℕ) → behind (c ∷ []) bs ≡ Some r → length r < length bs
+behind_less c bs r h = omega (arith, starts_le (c ∷ []) (skip bs) r h, skip_le bs)
 
 -- a value and what is left behind it, one after the other
 pub then_ok : {A B : Type 0} (x : Result A Slip) (f : A → Result B Slip) (y : B) → and_then x f ≡ Ok y → (z : A) × (x ≡ Ok z) × (f z ≡ Ok y)
 then_ok (Ok z) f y h = (z, refl, h)
 then_ok (Err e) f y h = absurd (ok_not h)
 
+-- one successor is read, within the bound, and then a comma and the others, or nothing
+pub record Step (n used : ℕ) (acc bs own r : List ℕ) : Type 0 where
+  pub goal : ℕ
+  pub after : List ℕ
+  pub shorter : length after < length bs
+  pub few : used + length acc < 64000
+  pub on : ((acc ++ (goal ∷ []) ≡ own) × (after ≡ r)) ⊎ ((rest : List ℕ) × (length rest < length after) × (goals_in n used (acc ++ (goal ∷ [])) rest ≡ Ok (own, r)))
+
+pub goals_step : (n used : ℕ) (acc bs own r : List ℕ) → goals_in (suc n) used acc bs ≡ Ok (own, r) → Step n used acc bs own r
+unfolding goals_in
+goals_step n used acc bs own r h =
+    let t = then_ok (number NoSuccessor bs) _ _ h in
+    let p = t.0 in
+    at p (number_less NoSuccessor bs p.0 p.1 t.1) (ltb (used + length acc) 64000) refl t.2
+  where
+    on : (p : ℕ × List ℕ) (o : Option (List ℕ)) → behind (44 ∷ []) p.1 ≡ o → goals_on (λ rest. goals_in n used (acc ++ (p.0 ∷ [])) rest) (acc ++ (p.0 ∷ [])) p.1 o ≡ Ok (own, r) → ((acc ++ (p.0 ∷ []) ≡ own) × (p.1 ≡ r)) ⊎ ((rest : List ℕ) × (length rest < length p.1) × (goals_in n used (acc ++ (p.0 ∷ [])) rest ≡ Ok (own, r)))
+    on p None e k = inl (ap (λ p. p.0) (ok_is k), ap (λ p. p.1) (ok_is k))
+    on p (Some x) e k = inr (x, behind_less 44 p.1 x e, k)
+
+    at : (p : ℕ × List ℕ) → length p.1 < length bs → (t : Bool) → ltb (used + length acc) 64000 ≡ t → cond t (goals_on (λ rest. goals_in n used (acc ++ (p.0 ∷ [])) rest) (acc ++ (p.0 ∷ [])) p.1 (behind (44 ∷ []) p.1)) (Err (slip TooManyMoves p.1)) ≡ Ok (own, r) → Step n used acc bs own r
+    at p l true e k = record { goal = p.0; after = p.1; shorter = l; few = ltb-true (used + length acc) 64000 e; on = on p (behind (44 ∷ []) p.1) refl k }
+    at p l false e k = absurd (ok_not k)
+
 goals_less : (n used : ℕ) (acc bs : List ℕ) (own r : List ℕ) → goals_in n used acc bs ≡ Ok (own, r) → length r ≤ length bs
 unfolding goals_in
 goals_less zero used acc bs own r h = let e : bs ≡ r = ap (λ p. p.1) (ok_is h) in rw (sym e) (omega arith)
 goals_less (suc n) used acc bs own r h =
-    let t = then_ok (number NoSuccessor bs) _ _ h in
-    let p = t.0 in
-    at p (number_less NoSuccessor bs p.0 p.1 t.1) (λ rest k. goals_less n used (acc ++ (p.0 ∷ [])) rest own r k) (ltb (used + length acc) 64000) t.2
-  where
-    on : (p : ℕ × List ℕ) → length p.1 < length bs → ((rest : List ℕ) → goals_in n used (acc ++ (p.0 ∷ [])) rest ≡ Ok (own, r) → length r ≤ length rest) → (o : Option (List ℕ)) → behind 44 p.1 ≡ o → goals_on (λ rest. goals_in n used (acc ++ (p.0 ∷ [])) rest) (acc ++ (p.0 ∷ [])) p.1 o ≡ Ok (own, r) → length r ≤ length bs
-    on p l rec None e k = let q : p.1 ≡ r = ap (λ p. p.1) (ok_is k) in rw (sym q) (omega (arith, l))
-    on p l rec (Some x) e k = omega (arith, rec x k, behind_less 44 p.1 x e, l)
-
-    at : (p : ℕ × List ℕ) → length p.1 < length bs → ((rest : List ℕ) → goals_in n used (acc ++ (p.0 ∷ [])) rest ≡ Ok (own, r) → length r ≤ length rest) → (t : Bool) → cond t (goals_on (λ rest. goals_in n used (acc ++ (p.0 ∷ [])) rest) (acc ++ (p.0 ∷ [])) p.1 (behind 44 p.1)) (Err (slip TooManyMoves p.1)) ≡ Ok (own, r) → length r ≤ length bs
-    at p l rec true k = on p l rec (behind 44 p.1) refl k
-    at p l rec false k = absurd (ok_not k)
+    let s = goals_step n used acc bs own r h in
+    ⊎_elim (λ t. omega (arith, s.shorter, ap length t.1)) (λ t. omega (arith, s.shorter, t.1, goals_less n used (acc ++ (s.goal ∷ [])) t.0 own r t.2)) s.on
 
 head_less : (bs : List ℕ) (h : Head) (r : List ℕ) → head bs ≡ Ok (h, r) → length r < length bs
 head_less bs h r e =
@@ -88,28 +101,28 @@ head_less bs h r e =
     let o = then_ok (owner p.0.1) _ _ p.2 in
     let n = then_ok (number Number p.0.1) owner_of o.0 o.1 in
     let q : o.0.1 ≡ r = ap (λ p. p.1) (ok_is o.2) in
-    let m : n.0.1 ≡ o.0.1 = kept n.0 o.0 (ltb n.0.0 2) n.2 in
+    let m : n.0.1 ≡ o.0.1 = kept n.0 o.0 (side_of n.0.0) n.2 in
     omega (arith, number_less Number bs i.0.0 i.0.1 i.1, number_less Number i.0.1 p.0.0 p.0.1 p.1, number_less Number p.0.1 n.0.0 n.0.1 n.1, ap length q, ap length m)
   where
-    kept : (x y : ℕ × List ℕ) (t : Bool) → cond t (Ok x) (Err (slip Owner x.1)) ≡ Ok y → x.1 ≡ y.1
-    kept x y true k = ap (λ p. p.1) (ok_is k)
-    kept x y false k = absurd (ok_not k)
+    kept : (x : ℕ × List ℕ) (y : Side × List ℕ) (o : Option Side) → owner_on x.1 o ≡ Ok y → x.1 ≡ y.1
+    kept x y None k = absurd (ok_not k)
+    kept x y (Some w) k = ap (λ p. p.1) (ok_is k)
 
 name_le : (bs n r : List ℕ) → name bs ≡ Ok (n, r) → length r ≤ length bs
-name_le bs n r h = on (behind 34 bs) refl h
+name_le bs n r h = on (behind (34 ∷ []) bs) refl h
   where
-    at : (x : List ℕ) → length x < length bs → (t : Bool) → cond {A = Result (List ℕ × List ℕ) Slip} t (Ok (take (quote_index x) x, drop (quote_index x + 1) x)) (Err (slip Quote x)) ≡ Ok (n, r) → length r ≤ length bs
-    at x l true k = let q : drop (quote_index x + 1) x ≡ r = ap (λ p. p.1) (ok_is k) in omega (arith, ap length q, length-drop (quote_index x + 1) x, l)
-    at x l false k = absurd (ok_not k)
+    at : (x : List ℕ) → length x < length bs → (o : Option ℕ) → name_up_to x o ≡ Ok (n, r) → length r ≤ length bs
+    at x l None k = absurd (ok_not k)
+    at x l (Some m) k = let q : drop (m + 1) x ≡ r = ap (λ p. p.1) (ok_is k) in omega (arith, ap length q, length-drop (m + 1) x, l)
 
-    on : (o : Option (List ℕ)) → behind 34 bs ≡ o → name_on bs o ≡ Ok (n, r) → length r ≤ length bs
+    on : (o : Option (List ℕ)) → behind (34 ∷ []) bs ≡ o → name_on bs o ≡ Ok (n, r) → length r ≤ length bs
     on None e k = let q : bs ≡ r = ap (λ p. p.1) (ok_is k) in rw (sym q) (omega arith)
-    on (Some x) e k = at x (behind_less 34 bs x e) (ltb (quote_index x) (length x)) k
+    on (Some x) e k = at x (behind_less 34 bs x e) (position (λ b. eqb b 34) x) k
 
 ended_le : (bs r : List ℕ) → ended bs ≡ Ok r → length r ≤ length bs
-ended_le bs r h = on (behind 59 bs) refl h
+ended_le bs r h = on (behind (59 ∷ []) bs) refl h
   where
-    on : (o : Option (List ℕ)) → behind 59 bs ≡ o → ended_on (skip bs) o ≡ Ok r → length r ≤ length bs
+    on : (o : Option (List ℕ)) → behind (59 ∷ []) bs ≡ o → ended_on (skip bs) o ≡ Ok r → length r ≤ length bs
     on None e k = absurd (ok_not k)
     on (Some x) e k = omega (arith, ap length (ok_is k), behind_less 59 bs x e)
 

@@ -1,10 +1,10 @@
 pub mod Assembling
-pub mod Chains
 pub mod Compressing
 pub mod Fines
 pub mod Gathers
 pub mod Goals
 pub mod Lengths
+pub mod Looking
 pub mod SameWins
 pub mod Scans
 pub mod Writes

@@ -1,16 +1,24 @@
 -- Ids are looked up, and the words of the places are written.
-use Rattle.std.proofs.Common.{◌≡◌, ℕ, zero, suc, ◌+◌, ◌-◌, ◌*◌, ◌<◌, ◌≤◌, Bool, true, false, ◌&&◌, ltb, List, [], ◌∷◌, ◌++◌, map, length, get_or, take, drop, Err, Result, sym, refl, ap, ◌∙◌, subst, ⊎_elim, append_assoc, append-nil, arith}
-use Rattle.std.proofs.lemmas.List.{length-map, length-take, length_push, length-append, take_more, take_all, get_or_append_left, get_or_push, get_or-map, get_or-take, map_push, drop_more, drop_all, drop_at, drop-drop, take_at, length-drop}
+use Rattle.std.proofs.Common.{◌≡◌, ℕ, zero, suc, ◌+◌, ◌<◌, ◌≤◌, Bool, true, false, ◌&&◌, ltb, List, [], ◌∷◌, ◌++◌, map, length, get_or, take, drop, Some, None, Option, Err, sym, refl, ap, ◌∙◌, subst, ⊎_elim, append_assoc, append-nil, arith}
+use Rattle.std.specs.BTreeMap.{BTreeMap, get, Updates}
+use Rattle.std.specs.Option.{is_some}
+use Rattle.std.specs.Ordering.{nat_cmp}
+use Rattle.std.proofs.lemmas.List.{length-map, take_more, take_all, get_or-map, map_push, drop_more, drop_all, get_or_read}
+use Rattle.std.specs.List.{zip, enumerate_from}
+use Rattle.std.proofs.lemmas.List.FromFn.{length-enumerate_from, get_or-enumerate_from}
+use Rattle.std.proofs.lemmas.Slice.Zip.{length-zip, get_or-zip}
+use Rattle.pgsolver.specs.declared.text.Node.{Node}
 use Rattle.std.proofs.lemmas.Bool.{cases_lt, lt-ltb, and_from}
 use Rattle.endless.specs.Games.{Place, below, some_of, row as words}
-use Rattle.pgsolver.specs.declared.text.Node.{Node}
-use Rattle.pgsolver.specs.Form.{Entry, all_goes}
-use Rattle.pgsolver.specs.Table.{Apart}
+use Rattle.endless.specs.Sides.{number}
+use Rattle.endless.specs.declared.side.Side.{Side}
+use Rattle.endless.specs.declared.side.Side.TheVariants.{Even, Odd}
+use Rattle.pgsolver.specs.Form.{Entry}
 use Rattle.pgsolver.specs.declared.wrong.Wrong.{Wrong}
 use Rattle.pgsolver.specs.declared.wrong.Wrong.TheVariants.{Twice, Unknown, Priority, Memory}
-use Rattle.pgsolver.specs.Held.{node_of}
 use Rattle.pgsolver.specs.Weights.{weights_of}
-use Rattle.pgsolver.specs.Wrongs.{Missing, Again, SomeOf, Gone, Went, Fine, FineAll, Ready, Played, Worded}
+use Rattle.pgsolver.proofs.Looking.{FoundIn, found_none, found_more}
+use Rattle.pgsolver.specs.Wrongs.{Again, SomeOf, Gone, Went, Fine, FineAll, Ready, Played, Worded}
 
 pub gone_none : (ids acc : List ℕ) → Gone ids [] acc acc
 gone_none ids acc = record { to = []; is = sym (append-nil acc); reads = refl; low = refl }
@@ -34,50 +42,45 @@ gone_more ids goes acc new k i g l within e longer more = record {
 pub gone_all : (ids goes acc new : List ℕ) (k : ℕ) → Gone ids (take k goes) acc new → length goes ≤ k → Gone ids goes acc new
 gone_all ids goes acc new k g l = subst (λ x. Gone ids x acc new) (take_all k goes l) g
 
--- one id more, which is none of those before
-pub apart_more : (ids : List ℕ) (x : ℕ) → Apart ids → Missing ids x → Apart (ids ++ (x ∷ []))
-apart_more ids x a m i j l k e =
-    ⊎_elim
-    (λ h. a i j l h (sym (get_or_append_left ids (x ∷ []) 0 i (omega (arith, l, h))) ∙ e ∙ get_or_append_left ids (x ∷ []) 0 j h))
-    (λ h. let last : length ids ≡ j = omega (arith, h, k, length_push ids x) in m i (omega (arith, l, last)) (sym (get_or_append_left ids (x ∷ []) 0 i (omega (arith, l, last))) ∙ e ∙ get_or_push ids x 0 j last))
-    (cases_lt j (length ids))
+-- the map has the first n ids, which all differ
+pub record IndexedTo (ids : List ℕ) (m : BTreeMap ℕ ℕ) (n : ℕ) : Type 0 where
+  pub located : (x : ℕ) → FoundIn ids n x (get nat_cmp m x)
+  pub apart : (i j : ℕ) → i < j → j < n → get_or ids i 0 ≡ get_or ids j 0 → ⊥
 
-module _ (nodes : List Node) (n : ℕ) (l : n < length nodes) (d : Node) (x : ℕ) (is : x ≡ (get_or nodes n d).id) where
-  abbrev id_of : Node → ℕ
-  id_of n = n.id
+pub indexed_none : (ids : List ℕ) (m : BTreeMap ℕ ℕ) → m.entries ≡ [] → IndexedTo ids m 0
+indexed_none ids m e = record {
+  located = found_none ids m e;
+  apart = λ i j l k. absurd (omega arith);
+}
 
-  pub ids_more : (old new : List ℕ) → old ≡ map (λ n. n.id) (take n nodes) → new ≡ old ++ (x ∷ []) → new ≡ map (λ n. n.id) (take (n + 1) nodes)
-  ids_more old new a b = b ∙ ap (λ l. l ++ (x ∷ [])) a ∙ ap (λ y. map (λ n. n.id) (take n nodes) ++ (y ∷ [])) is ∙ sym (map_push id_of (take n nodes) (get_or nodes n d)) ∙ ap (λ l. map id_of l) (sym (take_more nodes n d l))
+module _ (ids : List ℕ) (m : BTreeMap ℕ ℕ) (n x : ℕ) (s : IndexedTo ids m n) (is : get_or ids n 0 ≡ x) where
+  pub indexed_twice : n < length ids → (o : Option ℕ) → o ≡ get nat_cmp m x → is_some o ≡ true → Again ids n
+  indexed_twice l None e h = absurd (let z : false ≡ true = h in cc)
+  indexed_twice l (Some i) e h = let t = subst (FoundIn ids n x) (sym e) (s.located x) in (l, (i, t.0, t.1 ∙ sym is))
 
-  pub again_at : (old : List ℕ) → old ≡ map (λ n. n.id) (take n nodes) → (i : ℕ) → i < length old → get_or old i 0 ≡ x → Again (map (λ n. n.id) nodes) n
-  again_at old a i k e =
-      let low : i < n = omega (arith, k, ap length a, length-map (take n nodes) id_of, length-take n nodes) in
-      (omega (arith, l, length-map nodes id_of), (i, low, same i low ∙ e ∙ is ∙ sym (get_or-map id_of nodes n d 0 l)))
-    where
-      same : (i : ℕ) → i < n → get_or (map (λ n. n.id) nodes) i 0 ≡ get_or old i 0
-      same i low = get_or-map id_of nodes i d 0 (omega (arith, low, l)) ∙ ap id_of (sym (get_or-take n nodes i d low)) ∙ sym (get_or-map id_of (take n nodes) i d 0 (omega (arith, low, l, length-take n nodes))) ∙ ap (λ l. get_or l i 0) (sym a)
+  none_is : (o : Option ℕ) → o ≡ get nat_cmp m x → is_some o ≡ false → (i : ℕ) → i < n → get_or ids i 0 ≡ x → ⊥
+  none_is None e h = subst (FoundIn ids n x) (sym e) (s.located x)
+  none_is (Some i) e h = absurd (let z : true ≡ false = h in cc)
 
-pub pushed_three : (old one two three : List ℕ) (s w m : ℕ) → one ≡ old ++ (s ∷ []) → two ≡ one ++ (w ∷ []) → three ≡ two ++ (m ∷ []) → three ≡ old ++ (s ∷ w ∷ m ∷ [])
-pushed_three old one two three s w m a b c =
+  pub indexed_more : (o : Option ℕ) → o ≡ get nat_cmp m x → is_some o ≡ false → (m2 : BTreeMap ℕ ℕ) → Updates nat_cmp m m2 x (Some n) → IndexedTo ids m2 (n + 1)
+  indexed_more o e h m2 u = record {
+    located = found_more ids m n x s.located is m2 u;
+    apart = λ i j l k same. ⊎_elim
+        (λ b. s.apart i j l b same)
+        (λ b. let last : j ≡ n = omega (arith, b, k) in none_is o e h i (omega (arith, l, last)) (same ∙ ap (λ m. get_or ids m 0) last ∙ is))
+        (cases_lt j n);
+  }
+
+pub three_more : (old one two three : List ℕ) (s w m : ℕ) → one ≡ old ++ (s ∷ []) → two ≡ one ++ (w ∷ []) → three ≡ two ++ (m ∷ []) → three ≡ old ++ (s ∷ w ∷ m ∷ [])
+three_more old one two three s w m a b c =
     c ∙ ap (λ l. l ++ (m ∷ [])) (b ∙ ap (λ l. l ++ (w ∷ [])) a) ∙ append_assoc (old ++ (s ∷ [])) (w ∷ []) (m ∷ []) ∙ append_assoc old (s ∷ []) (w ∷ m ∷ [])
 
-abbrev node_from : Entry → Node
-node_from e = node_of e.first (length e.goes) e.left
-
 -- what is left to write
-pub record LeftWords (ids : List ℕ) (es : List Entry) (goals ws now : List ℕ) (n at : ℕ) : Type 0 where
-  pub far : n ≤ length es
-  pub inside : at ≤ length goals
-  pub left : drop at goals ≡ all_goes (drop n es)
+pub record LeftWords (ids : List ℕ) (es : List Entry) (ws now : List ℕ) (n : ℕ) : Type 0 where
   pub onward : (new : List ℕ) → Played ids (drop n es) (drop n ws) now new → Played ids es ws (length es ∷ []) new
 
-pub words_first : (ids : List ℕ) (es : List Entry) (nodes : List Node) (goals ws now : List ℕ) → Ready nodes goals ws ids es → now ≡ length nodes ∷ [] → LeftWords ids es goals ws now 0 0
-words_first ids es nodes goals ws now r is = record {
-  far = omega arith;
-  inside = omega arith;
-  left = r.go;
-  onward = λ new p. subst (λ l. Played ids es ws l new) (is ∙ ap (λ n. n ∷ []) (ap length r.are ∙ length-map es node_from)) p;
-}
+pub words_first : (ids : List ℕ) (es : List Entry) (ws now : List ℕ) → now ≡ length es ∷ [] → LeftWords ids es ws now 0
+words_first ids es ws now is = record { onward = λ new p. subst (λ l. Played ids es ws l new) is p }
 
 fine_at : (es : List Entry) (n : ℕ) (d : Entry) → FineAll es → n < length es → Fine (get_or es n d)
 fine_at [] n d f l = absurd (omega arith)
@@ -88,114 +91,72 @@ some_true : (ms : List ℕ) → 0 < length ms → some_of ms ≡ true
 some_true [] h = absurd (omega arith)
 some_true (x ∷ xs) h = refl
 
--- some entry stands at a place within
-pub some_entry : (es : List Entry) (n : ℕ) → n < length es → Entry
-some_entry [] n l = absurd (omega arith)
-some_entry (e ∷ es) n l = e
+side_low : (w : Side) → number w < 2
+side_low Even = omega arith
+side_low Odd = omega arith
 
-module _ (ids : List ℕ) (es : List Entry) (nodes : List Node) (goals ws now : List ℕ) (r : Ready nodes goals ws ids es) (n at : ℕ) (s : LeftWords ids es goals ws now n at) (l : n < length nodes) where
-  pub within : n < length es
-  within = omega (arith, l, ap length r.are, length-map es node_from)
-
-  abbrev e : Entry
-  e = get_or es n (some_entry es n within)
-
+module _ (ids : List ℕ) (es : List Entry) (ws now : List ℕ) (r : Ready ws es) (n : ℕ) (s : LeftWords ids es ws now n) (l : n < length es) (e : Entry) (is : get_or es n e ≡ e) where
   fine : Fine e
-  fine = fine_at es n (some_entry es n within) r.fine within
+  fine = subst Fine is (fine_at es n e r.fine l)
 
-  pub node_is : (d : Node) → get_or nodes n d ≡ node_from e
-  node_is d = ap (λ l. get_or l n d) r.are ∙ get_or-map node_from es n (some_entry es n within) d within
+  pub goes_few : length e.goes ≤ 64000
+  goes_few = fine.few
 
-  rest_is : drop n es ≡ e ∷ drop (n + 1) es
-  rest_is = drop_more es n (some_entry es n within) within
+  pub weight_inside : n < length ws
+  weight_inside = omega (arith, l, r.weighed)
 
-  goals_left : drop at goals ≡ e.goes ++ all_goes (drop (n + 1) es)
-  goals_left = s.left ∙ ap all_goes rest_is
+  module _ (w : ℕ) (weight_is : w ≡ get_or ws n 0) (next : List ℕ) where
+    abbrev behind : List ℕ
+    behind = now ++ (number e.first.owner ∷ w ∷ length e.goes ∷ [])
 
-  long : length goals - at ≡ length e.goes + length (all_goes (drop (n + 1) es))
-  long = sym (length-drop at goals) ∙ ap length goals_left ∙ length-append e.goes (all_goes (drop (n + 1) es))
+    pub words_wrong : (x : Wrong) → Went ids e.goes n behind next (Err x) → Worded ids es ws (Err x)
+    words_wrong (Twice m) h = h
+    words_wrong (Unknown m x) h = (omega (arith, h.0, l), subst (λ k. SomeOf (get_or (map (λ e. e.goes) es) k []) x) (sym h.0) (subst (λ g. SomeOf g x) (sym (get_or-map (λ e. e.goes) es n e [] l ∙ ap (λ e. e.goes) is)) h.1), h.2)
+    words_wrong (Priority m) h = h
+    words_wrong Memory h = tt
 
-  module _ (d : Node) (v : Node) (is : v ≡ get_or nodes n d) where
-    many : v.count ≡ length e.goes
-    many = ap (λ v. v.count) (is ∙ node_is d)
+    module _ (g : Gone ids e.goes behind next) where
+      abbrev big : Place
+      big = record { whose = number e.first.owner; weight = e.first.priority; moves = g.to }
 
-    pub count_few : v.count ≤ 64000
-    count_few = omega (arith, many, fine.few)
+      abbrev here : Place
+      here = record { whose = number e.first.owner; weight = w; moves = g.to }
 
-    pub count_inside : at + v.count ≤ length goals
-    count_inside = omega (arith, many, long, s.inside)
+      same_many : length g.to ≡ length e.goes
+      same_many = sym (length-map g.to (λ i. get_or ids i 0)) ∙ ap length g.reads
 
-    pub weight_inside : n < length ws
-    weight_inside = omega (arith, within, r.weighed)
+      light : w < 256
+      light = omega (arith, weight_is, r.low n weight_inside)
 
-    own_is : take v.count (drop at goals) ≡ e.goes
-    own_is = ap (λ l. take v.count l) goals_left ∙ take_at e.goes (all_goes (drop (n + 1) es)) v.count (sym many)
+      play : (new : List ℕ) → Played ids (drop (n + 1) es) (drop (n + 1) ws) next new → Played ids (e ∷ drop (n + 1) es) (get_or ws n 0 ∷ drop (n + 1) ws) now new
+      play new p = record {
+        whole = big ∷ p.whole;
+        game = here ∷ p.game;
+        is = p.is ∙ ap (λ l. l ++ words p.game) g.is ∙ append_assoc behind g.to (words p.game) ∙ append_assoc now (number e.first.owner ∷ w ∷ length e.goes ∷ []) (g.to ++ words p.game) ∙ ap (λ m. now ++ (number e.first.owner ∷ w ∷ m ∷ (g.to ++ words p.game))) (sym same_many);
+        ok = and_from _ _ (and_from _ _ (lt-ltb (number e.first.owner) 2 (side_low e.first.owner)) (lt-ltb w 256 light)) (and_from _ _ (and_from _ _ (some_true g.to (omega (arith, fine.some, same_many))) g.low) p.ok);
+        alike = (refl, refl, p.alike);
+        weighs = ap (λ x. x ∷ weights_of p.game) weight_is ∙ ap (λ l. get_or ws n 0 ∷ l) p.weighs;
+        places = (record { owns = refl; heavy = refl; moved = g.reads }, p.places);
+      }
 
-    module _ (own : List ℕ) (cut : own ≡ take v.count (drop at goals)) (w : ℕ) (weight_is : w ≡ get_or ws n 0) (next : List ℕ) where
-      abbrev behind : List ℕ
-      behind = now ++ (v.owner ∷ w ∷ v.count ∷ [])
+      rest_is : drop n es ≡ e ∷ drop (n + 1) es
+      rest_is = drop_more es n e l ∙ ap (λ x. x ∷ drop (n + 1) es) is
 
-      pub words_unknown : (m x : ℕ) → m ≡ n → SomeOf own x → Missing ids x → (m < length es) × SomeOf (get_or (map (λ e. e.goes) es) m []) x × Missing ids x
-      words_unknown m x q f g = (omega (arith, q, within), subst (λ l. SomeOf l x) (cut ∙ own_is ∙ sym (get_or-map (λ e. e.goes) es n (some_entry es n within) [] within) ∙ ap (λ k. get_or (map (λ e. e.goes) es) k []) (sym q)) f, g)
+      pub words_more : LeftWords ids es ws next (n + 1)
+      words_more = record {
+        onward = λ new p. s.onward new (subst (λ l. Played ids l (drop n ws) now new) (sym rest_is) (subst (λ l. Played ids (e ∷ drop (n + 1) es) l now new) (sym (drop_more ws n 0 weight_inside)) (play new p)));
+      }
 
-      module _ (g : Gone ids own behind next) where
-        abbrev big : Place
-        big = record { whose = v.owner; weight = e.first.priority; moves = g.to }
-
-        abbrev here : Place
-        here = record { whose = v.owner; weight = w; moves = g.to }
-
-        reads_own : map (λ i. get_or ids i 0) g.to ≡ e.goes
-        reads_own = g.reads ∙ cut ∙ own_is
-
-        same_many : length g.to ≡ v.count
-        same_many = sym (length-map g.to (λ i. get_or ids i 0)) ∙ ap length reads_own ∙ sym many
-
-        owner_is : v.owner ≡ e.first.owner
-        owner_is = ap (λ v. v.owner) (is ∙ node_is d)
-
-        light : w < 256
-        light = omega (arith, weight_is, r.low n weight_inside)
-
-        play : (new : List ℕ) → Played ids (drop (n + 1) es) (drop (n + 1) ws) next new → Played ids (e ∷ drop (n + 1) es) (get_or ws n 0 ∷ drop (n + 1) ws) now new
-        play new p = record {
-          whole = big ∷ p.whole;
-          game = here ∷ p.game;
-          is = p.is ∙ ap (λ l. l ++ words p.game) g.is ∙ append_assoc behind g.to (words p.game) ∙ append_assoc now (v.owner ∷ w ∷ v.count ∷ []) (g.to ++ words p.game) ∙ ap (λ m. now ++ (v.owner ∷ w ∷ m ∷ (g.to ++ words p.game))) (sym same_many);
-          ok = and_from _ _ (and_from _ _ (lt-ltb v.owner 2 (omega (arith, owner_is, fine.sided))) (lt-ltb w 256 light)) (and_from _ _ (and_from _ _ (some_true g.to (omega (arith, fine.some, same_many, many))) g.low) p.ok);
-          alike = (refl, refl, p.alike);
-          weighs = ap (λ x. x ∷ weights_of p.game) weight_is ∙ ap (λ l. get_or ws n 0 ∷ l) p.weighs;
-          places = (record { owns = owner_is; heavy = refl; moved = reads_own }, p.places);
-        }
-
-        pub words_more : LeftWords ids es goals ws next (n + 1) (at + v.count)
-        words_more = record {
-          far = omega (arith, within);
-          inside = count_inside;
-          left = sym (drop-drop v.count at goals) ∙ ap (λ l. drop v.count l) goals_left ∙ drop_at e.goes (all_goes (drop (n + 1) es)) v.count (sym many);
-          onward = λ new p. s.onward new (subst (λ l. Played ids l (drop n ws) now new) (sym rest_is) (subst (λ l. Played ids (e ∷ drop (n + 1) es) l now new) (sym (drop_more ws n 0 weight_inside)) (play new p)));
-        }
-
-pub words_all : (ids : List ℕ) (es : List Entry) (nodes : List Node) (goals ws now : List ℕ) (r : Ready nodes goals ws ids es) (n at : ℕ) (s : LeftWords ids es goals ws now n at) → length nodes ≤ n → Played ids es ws (length es ∷ []) now
-words_all ids es nodes goals ws now r n at s l =
-    let end : length es ≤ n = omega (arith, l, ap length r.are, length-map es node_from) in
+pub words_all : (ids : List ℕ) (es : List Entry) (ws now : List ℕ) → Ready ws es → (n : ℕ) → LeftWords ids es ws now n → length es ≤ n → Played ids es ws (length es ∷ []) now
+words_all ids es ws now r n s end =
     s.onward now (subst (λ x. Played ids x (drop n ws) now now) (sym (drop_all n es end)) (subst (λ x. Played ids [] x now now) (sym (drop_all n ws (omega (arith, end, r.weighed)))) (record { whole = []; game = []; is = sym (append-nil now); ok = refl; alike = tt; weighs = refl; places = tt })))
 
-pub apart_none : (ids : List ℕ) → ids ≡ [] → Apart ids
-apart_none ids e i j l k = absurd (omega (arith, k, ap length e))
-
-pub went_from : (ids goes : List ℕ) (n : ℕ) (old acc new : List ℕ) (r : Result (Unit {0}) Wrong) → old ≡ acc → Went ids goes n old new r → Went ids goes n acc new r
-went_from ids goes n old acc new r e w = subst (λ l. Went ids goes n l new r) e w
-
-pub words_wrong : (ids : List ℕ) (es : List Entry) (nodes : List Node) (goals ws now : List ℕ) (r : Ready nodes goals ws ids es) (n at : ℕ) (s : LeftWords ids es goals ws now n at) (l : n < length nodes) (d v : Node) (is : v ≡ get_or nodes n d) (own : List ℕ) (cut : own ≡ take v.count (drop at goals)) (w : ℕ) (weight_is : w ≡ get_or ws n 0) (acc next : List ℕ) (x : Wrong) → Went ids own n acc next (Err x) → Worded ids es ws (Err x)
-words_wrong ids es nodes goals ws now r n at s l d v is own cut w weight_is acc next (Twice m) h = h
-words_wrong ids es nodes goals ws now r n at s l d v is own cut w weight_is acc next (Unknown m x) h = words_unknown ids es nodes goals ws now r n at s l d v is own cut w weight_is next m x h.0 h.1 h.2
-words_wrong ids es nodes goals ws now r n at s l d v is own cut w weight_is acc next (Priority m) h = h
-words_wrong ids es nodes goals ws now r n at s l d v is own cut w weight_is acc next Memory h = tt
-
-goes_many : (es : List Entry) → FineAll es → length (all_goes es) ≤ 64000 * length es
-goes_many [] f = omega arith
-goes_many (e ∷ es) f = omega (arith, length-append e.goes (all_goes es), f.0.few, goes_many es f.1)
-
-pub end_fits : (ids : List ℕ) (es : List Entry) (nodes : List Node) (goals ws now : List ℕ) (r : Ready nodes goals ws ids es) (n at : ℕ) (s : LeftWords ids es goals ws now n at) (l : n < length nodes) (d v : Node) (is : v ≡ get_or nodes n d) → at + v.count ≤ 1048576000
-end_fits ids es nodes goals ws now r n at s l d v is = omega (arith, count_inside ids es nodes goals ws now r n at s l d v is, ap length r.go, goes_many es r.fine, r.few)
+-- a node and its weight come together
+pub paired : (nodes : List Node) (ws : List ℕ) (i n w : ℕ) (d : Node) → i < length (zip (enumerate_from 0 nodes) ws) → ◌≡◌ {A = (ℕ × Node) × ℕ} ((n, d), w) (get_or (zip (enumerate_from 0 nodes) ws) i ((n, d), w)) → (i < length nodes) × (i ≡ n) × (d ≡ get_or nodes n d) × (w ≡ get_or ws n 0)
+paired nodes ws i n w d l e =
+    let all : List (ℕ × Node) = enumerate_from 0 nodes in
+    let low : i < length nodes = omega (arith, l, length-zip all ws, length-enumerate_from 0 nodes) in
+    let under : i < length ws = omega (arith, l, length-zip all ws) in
+    let t : ◌≡◌ {A = (ℕ × Node) × ℕ} ((n, d), w) ((0 + i, get_or nodes i d), get_or ws i w) = e ∙ get_or-zip all ws i ((n, d), w) (omega (arith, low, length-enumerate_from 0 nodes)) under ∙ ap (λ p. (p, get_or ws i w)) (get_or-enumerate_from 0 nodes i (n, d) low) in
+    let same : i ≡ n = let z : n ≡ 0 + i = ap (λ p. p.0.0) t in omega arith in
+    (low, same, ap (λ p. p.0.1) t ∙ ap (λ k. get_or nodes k d) same, get_or_read ws i w under (ap (λ p. p.1) t) 0 ∙ ap (λ k. get_or ws k 0) same)

@@ -1,7 +1,9 @@
 -- PGSolver's form: what stands in front of a text, node by node.
-use Rattle.std.specs.Prelude.{ℕ, zero, suc, ◌+◌, ◌-◌, ◌*◌, Bool, cond, ◌||◌, List, [], ◌∷◌, ◌++◌, length, take, drop, Some, None, Ok, Err, Option, Result, ◌==◌, nat_lt}
+use Rattle.std.specs.Prelude.{ℕ, zero, suc, ◌+◌, ◌-◌, ◌*◌, Bool, cond, ◌||◌, List, [], ◌∷◌, ◌++◌, map, length, take, drop, position, Some, None, Ok, Err, Option, Result, ◌==◌, nat_lt}
 use Rattle.std.specs.Char.{is_ascii_digit}
-use Rattle.std.specs.List.{flat_map}
+use Rattle.std.specs.List.{flat_map, prefix_len}
+use Rattle.endless.specs.declared.side.Side.{Side}
+use Rattle.endless.specs.declared.side.Side.TheVariants.{Even, Odd}
 use Rattle.pgsolver.specs.declared.refusal.Fault.{Fault}
 use Rattle.pgsolver.specs.declared.refusal.Fault.TheVariants.{Number, Large, Owner, NoSuccessor, Quote, End, TooManyNodes, TooManyMoves}
 use Rattle.pgsolver.specs.declared.refusal.Slip.{Slip}
@@ -12,8 +14,7 @@ abbrev pub blank : ℕ → Bool
 blank b = b == 32 || (b == 10 || (b == 13 || b == 9))
 
 abbrev pub skip : List ℕ → List ℕ
-skip [] = []
-skip (b ∷ bs) = cond (blank b) (skip bs) (b ∷ bs)
+skip bs = drop (prefix_len blank bs) bs
 
 -- a fault, and how many bytes are left from there
 abbrev pub slip : Fault → List ℕ → Slip
@@ -23,19 +24,15 @@ abbrev pub and_then : {A B : Type 0} → Result A Slip → (A → Result B Slip)
 and_then (Ok x) f = f x
 and_then (Err y) f = Err y
 
--- what stands behind a mark
-abbrev pub behind_at : ℕ → List ℕ → Option (List ℕ)
-behind_at c [] = None
-behind_at c (b ∷ bs) = cond (b == c) (Some bs) None
-
-abbrev pub behind : ℕ → List ℕ → Option (List ℕ)
-behind c bs = behind_at c (skip bs)
-
 -- what stands behind a word
 abbrev pub starts : List ℕ → List ℕ → Option (List ℕ)
 starts [] bs = Some bs
 starts (c ∷ cs) [] = None
 starts (c ∷ cs) (b ∷ bs) = cond (b == c) (starts cs bs) None
+
+-- what stands behind a word that comes next
+abbrev pub behind : List ℕ → List ℕ → Option (List ℕ)
+behind w bs = starts w (skip bs)
 
 -- a number below 2 ^ 32 in digits, and what is left behind it
 abbrev pub digits : ℕ → List ℕ → Result (ℕ × List ℕ) Slip
@@ -51,10 +48,19 @@ abbrev pub number : Fault → List ℕ → Result (ℕ × List ℕ) Slip
 number f bs = numeral f (skip bs)
 
 -- an owner is 0 or 1
-abbrev pub owner_of : ℕ × List ℕ → Result (ℕ × List ℕ) Slip
-owner_of p = cond (nat_lt p.0 2) (Ok p) (Err (slip Owner p.1))
+abbrev pub side_of : ℕ → Option Side
+side_of zero = Some Even
+side_of (suc zero) = Some Odd
+side_of (suc (suc n)) = None
 
-abbrev pub owner : List ℕ → Result (ℕ × List ℕ) Slip
+abbrev pub owner_on : List ℕ → Option Side → Result (Side × List ℕ) Slip
+owner_on bs None = Err (slip Owner bs)
+owner_on bs (Some w) = Ok (w, bs)
+
+abbrev pub owner_of : ℕ × List ℕ → Result (Side × List ℕ) Slip
+owner_of p = owner_on p.1 (side_of p.0)
+
+abbrev pub owner : List ℕ → Result (Side × List ℕ) Slip
 owner bs = and_then (number Number bs) owner_of
 
 -- ID PRIORITY OWNER
@@ -72,7 +78,7 @@ goals_in zero used acc bs = Ok (acc, bs)
 goals_in (suc n) used acc bs =
     and_then (number NoSuccessor bs)
     (λ p. cond (nat_lt (used + length acc) 64000)
-    (goals_on (λ rest. goals_in n used (acc ++ (p.0 ∷ [])) rest) (acc ++ (p.0 ∷ [])) p.1 (behind 44 p.1))
+    (goals_on (λ rest. goals_in n used (acc ++ (p.0 ∷ [])) rest) (acc ++ (p.0 ∷ [])) p.1 (behind (44 ∷ []) p.1))
     (Err (slip TooManyMoves p.1)))
 
 -- each successor takes a byte at least
@@ -80,19 +86,19 @@ unfoldable pub goals : ℕ → List ℕ → Result (List ℕ × List ℕ) Slip
 goals used bs = goals_in (suc (length bs)) used [] bs
 
 -- "NAME", which may be missing: any bytes but a quote
-abbrev pub quote_index : List ℕ → ℕ
-quote_index [] = 0
-quote_index (b ∷ bs) = cond (b == 34) 0 (suc (quote_index bs))
+abbrev pub name_up_to : List ℕ → Option ℕ → Result (List ℕ × List ℕ) Slip
+name_up_to bs None = Err (slip Quote bs)
+name_up_to bs (Some n) = Ok (take n bs, drop (n + 1) bs)
 
 abbrev pub name_in : List ℕ → Result (List ℕ × List ℕ) Slip
-name_in bs = cond (nat_lt (quote_index bs) (length bs)) (Ok (take (quote_index bs) bs, drop (quote_index bs + 1) bs)) (Err (slip Quote bs))
+name_in bs = name_up_to bs (position (λ b. b == 34) bs)
 
 abbrev pub name_on : List ℕ → Option (List ℕ) → Result (List ℕ × List ℕ) Slip
 name_on bs None = Ok ([], bs)
 name_on bs (Some r) = name_in r
 
 abbrev pub name : List ℕ → Result (List ℕ × List ℕ) Slip
-name bs = name_on bs (behind 34 bs)
+name bs = name_on bs (behind (34 ∷ []) bs)
 
 -- a semicolon
 abbrev pub ended_on : List ℕ → Option (List ℕ) → Result (List ℕ) Slip
@@ -100,7 +106,7 @@ ended_on bs None = Err (slip End bs)
 ended_on bs (Some r) = Ok r
 
 abbrev pub ended : List ℕ → Result (List ℕ) Slip
-ended bs = ended_on (skip bs) (behind 59 bs)
+ended bs = ended_on (skip bs) (behind (59 ∷ []) bs)
 
 abbrev pub tail : List ℕ → Result (List ℕ × List ℕ) Slip
 tail bs = and_then (name bs) (λ p. and_then (ended p.1) (λ r. Ok (p.0, r)))
@@ -120,6 +126,12 @@ node used bs =
 -- the successors of all nodes
 abbrev pub all_goes : List Entry → List ℕ
 all_goes es = flat_map (λ e. e.goes) es
+
+abbrev pub ids_in : List Entry → List ℕ
+ids_in es = map (λ e. e.first.id) es
+
+abbrev pub priorities_in : List Entry → List ℕ
+priorities_in es = map (λ e. e.first.priority) es
 
 -- the nodes up to the end of the text, at most 16,384; acc are those read so far, and n more are looked at
 abbrev pub nodes_on : (List ℕ → Result (List Entry) Slip) → List Entry → List ℕ → Result (List Entry) Slip
@@ -142,7 +154,7 @@ header_on bs None = Ok bs
 header_on bs (Some r) = and_then (number Number r) (λ p. ended p.1)
 
 abbrev pub header : List ℕ → List ℕ → Result (List ℕ) Slip
-header w bs = header_on bs (starts w (skip bs))
+header w bs = header_on bs (behind w bs)
 
 -- parity
 abbrev pub parity_word : List ℕ

@@ -1,5 +1,5 @@
 -- A text and the game that it lists.
-use Rattle.std.specs.Prelude.{◌≡◌, ℕ, ◌+◌, ◌-◌, ◌<◌, Bool, cond, T, ◌↔◌, List, [], ◌∷◌, map, length, take, Ok, Err, vec_items, Result, Vec, ◌==◌, slice_index, slice_index_or}
+use Rattle.std.specs.Prelude.{◌≡◌, ℕ, ◌+◌, ◌-◌, ◌<◌, Bool, T, ◌↔◌, List, [], ◌∷◌, map, length, take, count_by, Ok, Err, vec_items, Result, Vec, ◌==◌, slice_index, slice_index_or}
 use Rattle.std.specs.declared.alloc.Global.{Global}
 use Rattle.endless.specs.Games.{Game, Reads}
 use Rattle.endless.specs.Says.{WinsFrom}
@@ -8,26 +8,14 @@ use Rattle.pgsolver.specs.declared.refusal.Refusal.TheVariants.{Fault, Twice, Un
 use Rattle.pgsolver.specs.declared.wrong.Wrong.{Wrong}
 use Rattle.pgsolver.specs.declared.Listing.{Listing}
 use Rattle.pgsolver.specs.declared.wrong.Wrong.TheVariants as wrong
-use Rattle.pgsolver.specs.declared.text.Node.{Node}
-use Rattle.pgsolver.specs.Form.{Entry, entries}
-use Rattle.pgsolver.specs.Held.{node_of}
+use Rattle.pgsolver.specs.Form.{Entry, ids_in, priorities_in, entries}
 use Rattle.pgsolver.specs.Table.{Apart}
 use Rattle.pgsolver.specs.Weights.{Below, Keeps, Fitted, Alike, weights_of, NoRoom}
 use Rattle.pgsolver.specs.Wrongs.{Missing, Again, SomeOf, Places, Played}
 
-abbrev pub ids_in : List Entry → List ℕ
-ids_in es = map (λ e. e.first.id) es
-
-abbrev pub priorities_in : List Entry → List ℕ
-priorities_in es = map (λ e. e.first.priority) es
-
 -- line feeds
-abbrev pub feed : ℕ → ℕ
-feed b = cond (b == 10) 1 0
-
 abbrev pub feeds : List ℕ → ℕ
-feeds [] = 0
-feeds (b ∷ bs) = feed b + feeds bs
+feeds bs = count_by (λ b. b == 10) bs
 
 -- the line, from 1, where so many bytes are left
 abbrev pub line_at : List ℕ → ℕ → ℕ
@@ -37,15 +25,11 @@ line_at text left = feeds (take (length text - left) text) + 1
 abbrev pub line_of : List ℕ → List Entry → ℕ → ℕ
 line_of text es n = line_at text (slice_index (map (λ e. e.left) es) n)
 
-abbrev pub nodes_from : List Entry → List Node
-nodes_from es = map (λ e. node_of e.first (length e.goes) e.left) es
-
-pub record Assembles (es : List Entry) (words ids : List ℕ) : Type 0 where
+pub record Assembles (es : List Entry) (words : List ℕ) : Type 0 where
   pub ws : List ℕ
-  pub are : ids ≡ ids_in es
-  pub different : Apart ids
+  pub different : Apart (ids_in es)
   pub fitted : Fitted (priorities_in es) ws
-  pub played : Played ids es ws (length es ∷ []) words
+  pub played : Played (ids_in es) es ws (length es ∷ []) words
 
 abbrev pub Unassembled : List Entry → Wrong → Type 0
 Unassembled es (wrong.Twice n) = Again (ids_in es) n
@@ -54,14 +38,14 @@ Unassembled es (wrong.Priority n) = NoRoom (priorities_in es) n
 Unassembled es wrong.Memory = Unit {0}
 
 -- the node that is wrong is one of them
-abbrev pub Inside : List Node → Wrong → Type 0
-Inside nodes (wrong.Twice n) = n < length nodes
-Inside nodes (wrong.Unknown n x) = n < length nodes
-Inside nodes (wrong.Priority n) = n < length nodes
-Inside nodes wrong.Memory = Unit {0}
+abbrev pub Inside : List Entry → Wrong → Type 0
+Inside es (wrong.Twice n) = n < length es
+Inside es (wrong.Unknown n x) = n < length es
+Inside es (wrong.Priority n) = n < length es
+Inside es wrong.Memory = Unit {0}
 
-abbrev pub Assembled : List Entry → Result (Vec ℕ Global × Vec ℕ Global) Wrong → Type 0
-Assembled es (Ok p) = Assembles es (vec_items p.0) (vec_items p.1)
+abbrev pub Assembled : List Entry → Result (Vec ℕ Global) Wrong → Type 0
+Assembled es (Ok v) = Assembles es (vec_items v)
 Assembled es (Err w) = Unassembled es w
 
 -- the text lists the game of these words, whose places have these ids and names; whole is the game with the priorities as they are written

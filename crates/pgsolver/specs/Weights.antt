@@ -1,19 +1,12 @@
 -- Priorities made smaller: in order, and odd as before.
-use Rattle.std.specs.Prelude.{◌≡◌, ℕ, ◌%◌, ◌<◌, ◌≤◌, Bool, cond, T, ◌↔◌, List, [], ◌∷◌, length, Some, None, Option, ◌==◌, slice_index}
+use Rattle.std.specs.Prelude.{◌≡◌, ℕ, ◌%◌, ◌<◌, ◌≤◌, Bool, T, ◌↔◌, List, [], ◌∷◌, map, length, Ok, Err, Result, IsSome, All, slice_index}
+use Rattle.std.specs.BTreeMap.{BTreeMap, get}
+use Rattle.std.specs.Option.{unwrap_or}
+use Rattle.std.specs.Ordering.{nat_cmp}
 use Rattle.pgsolver.specs.declared.weights.NoWeights.{NoWeights}
 use Rattle.pgsolver.specs.declared.weights.NoWeights.TheVariants.{TooMany, Memory}
 use Rattle.endless.specs.Games.{Game}
 use Rattle.endless.specs.Says.{WinsFrom}
-
--- the least from the bound on stands there, or there is none
-abbrev pub Least : List ℕ → ℕ → Option ℕ → Type 0
-Least ps bound None = (i : ℕ) → i < length ps → slice_index ps i < bound
-Least ps bound (Some n) = (n < length ps) × (bound ≤ slice_index ps n) × ((i : ℕ) → i < length ps → bound ≤ slice_index ps i → slice_index ps n ≤ slice_index ps i)
-
--- the weight is written where the priority stands, and nowhere else
-pub record Marks (ps : List ℕ) (p w : ℕ) (old new : List ℕ) : Type 0 where
-  pub long : length new ≡ length old
-  pub each : (i : ℕ) → i < length ps → slice_index new i ≡ cond (slice_index ps i == p) w (slice_index old i)
 
 abbrev pub Below : ℕ → List ℕ → Type 0
 Below m ws = (i : ℕ) → i < length ws → slice_index ws i < m
@@ -50,11 +43,18 @@ pub record Fitted (ps ws : List ℕ) : Type 0 where
 abbrev pub NoRoom : List ℕ → ℕ → Type 0
 NoRoom ps at = (at < length ps) × ((ws : List ℕ) → Keeps ps ws → 256 ≤ slice_index ws at)
 
-abbrev pub Spreads : List ℕ → List ℕ → Option ℕ → Type 0
-Spreads ps ws None = Keeps ps ws × Below 256 ws
-Spreads ps ws (Some at) = NoRoom ps at
-
 -- why there are no weights; want of memory says nothing
 abbrev pub Unfit : List ℕ → NoWeights → Type 0
 Unfit ps (TooMany at) = NoRoom ps at
 Unfit ps Memory = Unit {0}
+
+-- the weights that a map has for the priorities
+abbrev pub weight_of : BTreeMap ℕ ℕ → ℕ → ℕ
+weight_of m p = unwrap_or (get nat_cmp m p) 0
+
+abbrev pub weights_by : BTreeMap ℕ ℕ → List ℕ → List ℕ
+weights_by m ps = map (weight_of m) ps
+
+abbrev pub Spreads : List ℕ → Result (BTreeMap ℕ ℕ) NoWeights → Type 0
+Spreads ps (Ok m) = All (λ p. IsSome (get nat_cmp m p)) ps × Keeps ps (weights_by m ps) × Below 256 (weights_by m ps)
+Spreads ps (Err e) = Unfit ps e

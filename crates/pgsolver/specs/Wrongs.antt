@@ -1,15 +1,16 @@
 -- What is wrong with nodes, and the words that they make where nothing is.
 use Rattle.std.specs.Prelude.{◌≡◌, ℕ, ◌<◌, ◌≤◌, true, List, [], ◌∷◌, ◌++◌, map, length, Ok, Err, vec_items, Result, Vec, ◌≢◌, slice_index, slice_index_or}
 use Rattle.std.specs.declared.alloc.Global.{Global}
+use Rattle.std.specs.BTreeMap.{BTreeMap}
 use Rattle.endless.specs.Games.{Place, Game, below, ok_ps, row as words}
-use Rattle.pgsolver.specs.declared.text.Node.{Node}
-use Rattle.pgsolver.specs.declared.ids.Ids.{Ids}
+use Rattle.endless.specs.Sides.{number}
+use Rattle.pgsolver.specs.declared.weights.NoWeights.{NoWeights}
+use Rattle.pgsolver.specs.declared.weights.NoWeights.TheVariants as weights
 use Rattle.pgsolver.specs.declared.wrong.Wrong.{Wrong}
 use Rattle.pgsolver.specs.declared.wrong.Wrong.TheVariants.{Twice, Unknown, Priority, Memory}
-use Rattle.pgsolver.specs.Form.{Entry, all_goes}
-use Rattle.pgsolver.specs.Held.{node_of}
+use Rattle.pgsolver.specs.Form.{Entry, ids_in}
 use Rattle.pgsolver.specs.Weights.{Below, Alike, weights_of}
-use Rattle.pgsolver.specs.Table.{Sound, ids_of, Apart}
+use Rattle.pgsolver.specs.Table.{Locates, Apart}
 
 abbrev pub Missing : List ℕ → ℕ → Type 0
 Missing ids x = (i : ℕ) → i < length ids → slice_index ids i ≢ x
@@ -18,12 +19,17 @@ Missing ids x = (i : ℕ) → i < length ids → slice_index ids i ≢ x
 abbrev pub Again : List ℕ → ℕ → Type 0
 Again ids n = (n < length ids) × ((i : ℕ) × (i < n) × (slice_index ids i ≡ slice_index ids n))
 
-abbrev pub Indexed : List Node → Result Ids Wrong → Type 0
-Indexed nodes (Ok t) = Sound t × (ids_of t ≡ map (λ n. n.id) nodes) × Apart (ids_of t)
-Indexed nodes (Err (Twice n)) = Again (map (λ n. n.id) nodes) n
-Indexed nodes (Err (Unknown n x)) = ⊥
-Indexed nodes (Err (Priority n)) = ⊥
-Indexed nodes (Err Memory) = Unit {0}
+abbrev pub Indexed : List Entry → Result (BTreeMap ℕ ℕ) Wrong → Type 0
+Indexed es (Ok m) = Locates m (ids_in es) × Apart (ids_in es)
+Indexed es (Err (Twice n)) = Again (ids_in es) n
+Indexed es (Err (Unknown n x)) = ⊥
+Indexed es (Err (Priority n)) = ⊥
+Indexed es (Err Memory) = Unit {0}
+
+-- what is wrong where there are no weights
+abbrev pub unweighed : NoWeights → Wrong
+unweighed (weights.TooMany n) = Priority n
+unweighed weights.Memory = Memory
 
 -- numbers of places, each of the id that is written
 pub record Gone (ids goes acc new : List ℕ) : Type 0 where
@@ -42,9 +48,8 @@ Went ids goes n acc new (Err (Twice m)) = ⊥
 Went ids goes n acc new (Err (Priority m)) = ⊥
 Went ids goes n acc new (Err Memory) = Unit {0}
 
--- what each node has: a side, a successor at least, and not too many
+-- what each node has: a successor at least, and not too many
 pub record Fine (e : Entry) : Type 0 where
-  pub sided : e.first.owner < 2
   pub some : 0 < length e.goes
   pub few : length e.goes ≤ 64000
 
@@ -53,18 +58,15 @@ FineAll [] = Unit {0}
 FineAll (e ∷ es) = Fine e × FineAll es
 
 -- nodes with weights, ready to be written
-pub record Ready (nodes : List Node) (goals ws ids : List ℕ) (es : List Entry) : Type 0 where
-  pub are : nodes ≡ map (λ e. node_of e.first (length e.goes) e.left) es
-  pub go : goals ≡ all_goes es
+pub record Ready (ws : List ℕ) (es : List Entry) : Type 0 where
   pub fine : FineAll es
   pub weighed : length ws ≡ length es
   pub low : Below 256 ws
-  pub named : length ids ≡ length es
   pub few : length es ≤ 16384
 
 -- the place is as its node says: whose it is, the priority, and successor by successor the id of where it goes
 pub record Placed (ids : List ℕ) (e : Entry) (p : Place) : Type 0 where
-  pub owns : p.whose ≡ e.first.owner
+  pub owns : p.whose ≡ number e.first.owner
   pub heavy : p.weight ≡ e.first.priority
   pub moved : map (λ i. slice_index ids i) p.moves ≡ e.goes
 

@@ -1,15 +1,16 @@
 //! PGSolver's text form of a parity game, read into words.
 #![tactic(auto)]
 
-ghost use Rattle.std.specs.Prelude.{◌≡◌, ◌≤◌, List, length, IfOk, IfErr, Ok};
-ghost use Rattle.pgsolver.specs.Form.{Entry, entries};
-ghost use Rattle.pgsolver.specs.Held.{Holds};
-ghost use Rattle.pgsolver.specs.Listed.{nodes_from, Assembled, Unassembled, Inside, Listed, listed_names, Says};
+ghost use Rattle.std.specs.Prelude.{◌≡◌, ◌≤◌, length, IfOk, IfErr, Ok};
+ghost use Rattle.pgsolver.specs.Form.{priorities_in, entries};
+ghost use Rattle.pgsolver.specs.Held.{entries_of};
+ghost use Rattle.pgsolver.specs.Listed.{Assembled, Unassembled, Inside, Listed, listed_names, Says};
 ghost use Rattle.pgsolver.specs.Read.{Stops};
+ghost use Rattle.pgsolver.specs.Weights.{Fitted, Unfit};
 ghost use Rattle.pgsolver.specs.Wrongs.{FineAll};
 
 use crate::refusal::{Slip, Stop};
-use crate::text::{Node, Nodes};
+use crate::text::Node;
 use crate::weights::NoWeights;
 use crate::wrong::Wrong;
 use std::alloc::Global;
@@ -40,36 +41,35 @@ pub struct Listing {
     pub names: Vec<Vec<u8>>,
 }
 
-/// The words and the ids of the nodes.
-fn assemble(heap: Global, nodes: &Nodes) -> Result<(Vec<u32>, Vec<u32>), Wrong>
-    requires { (es : List Entry) × Holds nodes.now es × FineAll es × (length es ≤ 16384) }
-    ensures { (es : List Entry) → Holds nodes.now es → FineAll es → length es ≤ 16384 → Assembled es result }
+/// The weights of the nodes.
+fn weigh(heap: Global, nodes: &[Node]) -> Result<Vec<u32>, NoWeights>
+    ensures fitted { IfOk result (λ v. Fitted (priorities_in (entries_of nodes.now)) v.items) }
+    ensures unfit { IfErr result (λ e. Unfit (priorities_in (entries_of nodes.now)) e) }
 {
-    let ids = ids::index(heap, nodes.nodes.as_slice())?;
-    let weights = match compress(heap, nodes.priorities.as_slice()) {
-        Ok(weights) => weights,
-        Err(NoWeights::TooMany(n)) => return Err(Wrong::Priority(n)),
-        Err(NoWeights::Memory) => return Err(Wrong::Memory),
-    };
-    let words = words::write_words(
-        heap,
-        &ids,
-        nodes.nodes.as_slice(),
-        nodes.goals.as_slice(),
-        weights.as_slice(),
-    )?;
-    Ok((words, ids.into_ids()))
+    let priorities: Vec<u32> = nodes.iter().map(|node| node.head.priority).collect(heap)?;
+    compress(heap, &priorities)
+}
+
+/// The words of the nodes.
+fn assemble(heap: Global, nodes: &[Node]) -> Result<Vec<u32>, Wrong>
+    requires fine { FineAll (entries_of nodes.now) }
+    requires few { length nodes.now ≤ 16384 }
+    ensures { Assembled (entries_of nodes.now) result }
+{
+    let places = ids::index(heap, nodes)?;
+    let weights = weigh(heap, nodes)?;
+    words::write_words(heap, &places, nodes, &weights)
 }
 
 /// What is said of a text whose nodes are wrong.
 fn refused(text: &[u8], nodes: &[Node], wrong: Wrong) -> Refusal
-    requires { Inside nodes.now wrong }
-    ensures { (es : List Entry) → nodes.now ≡ nodes_from es → entries text.now ≡ Ok es → Unassembled es wrong → Says text.now result }
+    requires { Inside (entries_of nodes.now) wrong }
+    ensures { entries text.now ≡ Ok (entries_of nodes.now) → Unassembled (entries_of nodes.now) wrong → Says text.now result }
 {
     match wrong {
         Wrong::Twice(n) => Refusal::Twice {
             line: line::line_at(text, nodes[n].left),
-            id: nodes[n].id,
+            id: nodes[n].head.id,
         },
         Wrong::Unknown(n, id) => Refusal::Unknown {
             line: line::line_at(text, nodes[n].left),
@@ -103,17 +103,12 @@ pub fn read(heap: Global, text: &[u8]) -> Result<Listing, Refusal>
     if text.len() > MOST_BYTES {
         return Err(Refusal::TooLong);
     }
-    let nodes = match text::read_text(heap, text) {
-        Ok(nodes) => nodes,
-        Err(stop) => return Err(stopped(text, stop)),
-    };
-    if nodes.nodes.is_empty() {
+    let nodes = text::read_text(heap, text).map_err(|stop| stopped(text, stop))?;
+    if nodes.is_empty() {
         return Err(Refusal::NoNodes);
     }
-    let (words, ids) = match assemble(heap, &nodes) {
-        Ok(made) => made,
-        Err(wrong) => return Err(refused(text, nodes.nodes.as_slice(), wrong)),
-    };
-    let names = nodes.into_names();
+    let words = assemble(heap, &nodes).map_err(|wrong| refused(text, &nodes, wrong))?;
+    let ids = nodes.iter().map(|node| node.head.id).collect(heap)?;
+    let names = nodes.into_iter().map(|node| node.name).collect(heap)?;
     Ok(Listing { words, ids, names })
 }

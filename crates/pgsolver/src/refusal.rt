@@ -1,6 +1,8 @@
 //! Why a text is refused.
 ghost use Rattle.std.specs.Prelude.{◌≡◌};
 ghost use Rattle.pgsolver.specs.declared.refusal.Stop.TheVariants.{At, Memory};
+ghost use Rattle.pgsolver.specs.declared.refusal.Refusal.TheVariants as refusal;
+ghost use Rattle.pgsolver.specs.Form.{slip};
 
 use std::alloc::{AllocError, AllocFailed};
 use std::fmt;
@@ -42,11 +44,31 @@ pub struct Slip {
     pub left: usize,
 }
 
+impl Slip {
+    /// The fault that stands where the rest of the text begins.
+    pub(crate) fn at(fault: Fault, rest: &[u8]) -> Slip
+        ensures { result ≡ slip fault rest.now }
+    {
+        Slip {
+            fault,
+            left: rest.len(),
+        }
+    }
+}
+
 /// Why reading stops.
 #[derive(Clone, Copy, Debug, PartialEq, Eq)]
 pub(crate) enum Stop {
     At(Slip),
     Memory,
+}
+
+impl From<AllocError> for Refusal {
+    ghost from_gives = { λ _ r. r ≡ refusal.Memory };
+
+    fn from(_e: AllocError) -> Refusal {
+        Refusal::Memory
+    }
 }
 
 impl From<Slip> for Stop {

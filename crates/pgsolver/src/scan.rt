@@ -1,7 +1,7 @@
-//! Blanks, marks, words and numbers in front of a text.
+//! Blanks, words and numbers in front of a text. Each function gives what it reads and what is left, as the definitions do.
 ghost use Rattle.std.specs.Prelude.{◌≡◌};
 ghost use Rattle.std.specs.Option.{option_map};
-ghost use Rattle.pgsolver.specs.Form.{blank, skip, behind, starts, digits, numeral, number};
+ghost use Rattle.pgsolver.specs.Form.{blank, skip, behind, digits, numeral, number};
 ghost use Rattle.pgsolver.specs.Read.{Read, ref_now};
 
 use crate::refusal::{Fault, Slip};
@@ -10,76 +10,40 @@ use crate::refusal::{Fault, Slip};
 fn is_blank(b: u8) -> bool
     ensures { result ≡ blank b }
 {
-    b == b' ' || b == b'\n' || b == b'\r' || b == b'\t'
+    matches!(b, b' ' | b'\n' | b'\r' | b'\t')
 }
 
 /// The text behind the blanks in front of it.
 pub(crate) fn skip(text: &[u8]) -> &[u8]
     ensures { result.now ≡ skip text.now }
 {
-    let mut n = 0;
-    while n < text.len() {
-        if !is_blank(text[n]) {
-            return &text[n..];
-        }
-        n += 1;
-    }
-    &text[n..]
+    let blanks = text.iter().take_while(|b| is_blank(**b)).count();
+    &text[blanks..]
 }
 
-/// What stands behind a mark, if the text begins with it.
-pub(crate) fn behind(mark: u8, text: &[u8]) -> Option<&[u8]>
-    ensures { option_map ref_now result ≡ behind mark text.now }
+/// What stands behind a word, if it comes next.
+pub(crate) fn behind<'a>(word: &[u8], text: &'a [u8]) -> Option<&'a [u8]>
+    ensures { option_map ref_now result ≡ behind word.now text.now }
 {
-    let rest = skip(text);
-    if rest.is_empty() {
-        return None;
-    }
-    if rest[0] != mark {
-        return None;
-    }
-    Some(&rest[1..])
-}
-
-/// What stands behind a word, if the text begins with it.
-pub(crate) fn starts<'a>(word: &[u8], text: &'a [u8]) -> Option<&'a [u8]>
-    ensures { option_map ref_now result ≡ starts word.now text.now }
-{
-    let mut n = 0;
-    while n < word.len() {
-        if n >= text.len() {
-            return None;
-        }
-        if text[n] != word[n] {
-            return None;
-        }
-        n += 1;
-    }
-    Some(&text[n..])
+    skip(text).strip_prefix(word)
 }
 
 /// The number of the digits in front.
 fn digits(text: &[u8]) -> Result<(u32, &[u8]), Slip>
     ensures { Read (digits 0 text.now) result }
 {
-    let mut value = 0u64;
-    let mut n = 0;
-    while n < text.len() {
-        let b = text[n];
+    let mut value = 0u32;
+    for (n, b) in text.iter().enumerate() {
+        let rest = &text[n..];
         if !b.is_ascii_digit() {
-            return Ok((value as u32, &text[n..]));
+            return Ok((value, rest));
         }
-        let more = 10 * value + u64::from(b - b'0');
-        if more > 0xffff_ffff {
-            return Err(Slip {
-                fault: Fault::Large,
-                left: text.len() - n,
-            });
-        }
+        let Ok(more) = u32::try_from(10 * u64::from(value) + u64::from(*b - b'0')) else {
+            return Err(Slip::at(Fault::Large, rest));
+        };
         value = more;
-        n += 1;
     }
-    Ok((value as u32, &text[n..]))
+    Ok((value, &text[text.len()..]))
 }
 
 /// The number that comes next; `missing` is the fault where there is none.
@@ -87,18 +51,8 @@ pub(crate) fn number(missing: Fault, text: &[u8]) -> Result<(u32, &[u8]), Slip>
     ensures { Read (number missing text.now) result }
 {
     let rest = skip(text);
-    let left = rest.len();
-    if left == 0 {
-        return Err(Slip {
-            fault: missing,
-            left,
-        });
+    match rest.first() {
+        Some(b) if b.is_ascii_digit() => digits(rest),
+        _ => Err(Slip::at(missing, rest)),
     }
-    if !rest[0].is_ascii_digit() {
-        return Err(Slip {
-            fault: missing,
-            left,
-        });
-    }
-    digits(rest)
 }

@@ -1,78 +1,56 @@
 //! Large priorities made small.
-ghost use Rattle.std.specs.Prelude.{◌≡◌, ◌%◌, ◌<◌, ◌≤◌, true, false, length, IfOk, IfErr};
+ghost use Rattle.std.specs.Prelude.{◌≡◌, ◌%◌, IfOk, IfErr, IsSome, All};
+ghost use Rattle.std.specs.BTreeMap.{get};
+ghost use Rattle.std.specs.Ordering.{nat_cmp};
 ghost use Rattle.pgsolver.specs.declared.weights.NoWeights.TheVariants.{Memory};
-ghost use Rattle.pgsolver.specs.Weights.{Least, Marks, Below, Spreads, Fitted, Unfit, SameWins};
+ghost use Rattle.pgsolver.specs.Table.{Locates};
+ghost use Rattle.pgsolver.specs.Weights.{weights_by, Spreads, Fitted, Unfit, SameWins};
 
-use std::alloc::{AllocError, Global};
+use std::alloc::{AllocError, AllocFailed, Global};
+use std::collections::BTreeMap;
 
 /// Weights are below this.
 const WEIGHTS: u32 = 256;
 
-/// Where the least priority from `bound` on stands.
-fn least_from(priorities: &[u32], bound: u64) -> Option<usize>
-    ensures { Least priorities.now bound result }
+/// For each priority where it first stands.
+fn firsts(heap: Global, priorities: &[u32]) -> Result<BTreeMap<u32, usize>, AllocError>
+    ensures { IfOk result (λ m. Locates m priorities.now) }
 {
-    let mut best = None;
-    let mut least = 0x1_0000_0000;
-    let mut n = 0;
-    while n < priorities.len() {
-        let p = u64::from(priorities[n]);
-        if p >= bound {
-            if p < least {
-                least = p;
-                best = Some(n);
-            }
-        }
-        n += 1;
+    let mut firsts = BTreeMap::new(heap);
+    for (n, priority) in priorities.iter().enumerate() {
+        firsts.entry(*priority)?.or_insert(n);
     }
-    best
-}
-
-/// Writes the weight wherever the priority stands.
-fn mark(priorities: &[u32], priority: u32, weight: u32, out: &mut [u32])
-    requires { length priorities.now ≡ length out.old }
-    ensures { Marks priorities.now priority weight out.old out.new }
-{
-    let mut n = 0;
-    while n < priorities.len() {
-        if priorities[n] == priority {
-            out[n] = weight;
-        }
-        n += 1;
-    }
+    Ok(firsts)
 }
 
 /// Gives the priorities weights, from the least priority on, each the least that is above those before and odd where the priority is; or tells where one stands that gets none below 256.
-fn spread(priorities: &[u32], out: &mut [u32]) -> Option<usize>
-    requires { length priorities.now ≡ length out.old }
-    ensures { Spreads priorities.now out.new result }
+fn spread(heap: Global, priorities: &[u32]) -> Result<BTreeMap<u32, u32>, NoWeights>
+    ensures { Spreads priorities.now result }
 {
-    let mut bound = 0u64;
+    let mut left = firsts(heap, priorities)?;
+    let mut weights = BTreeMap::new(heap);
     let mut lowest = 0;
-    while let Some(at) = least_from(priorities, bound) {
-        let priority = priorities[at];
+    while let Some((priority, at)) = left.pop_first() {
         let weight = lowest + (priority % 2 + lowest) % 2;
         if weight >= WEIGHTS {
-            return Some(at);
+            return Err(NoWeights::TooMany(at));
         }
-        mark(priorities, priority, weight, out);
-        bound = u64::from(priority) + 1;
+        weights.insert(priority, weight)?;
         lowest = weight + 1;
     }
-    None
+    Ok(weights)
 }
 
-fn all_low(priorities: &[u32]) -> bool
-    ensures { (result ≡ true → Below 256 priorities.now) × (result ≡ false → Below 256 priorities.now → ⊥) }
+/// The weights in place of the priorities.
+fn replaced(
+    heap: Global,
+    priorities: &[u32],
+    weights: &BTreeMap<u32, u32>,
+) -> Result<Vec<u32>, AllocError>
+    requires { All (λ p. IsSome (get nat_cmp weights.now p)) priorities.now }
+    ensures { IfOk result (λ v. v.items ≡ weights_by weights.now priorities.now) }
 {
-    let mut n = 0;
-    while n < priorities.len() {
-        if priorities[n] >= WEIGHTS {
-            return false;
-        }
-        n += 1;
-    }
-    true
+    priorities.iter().map(|p| weights[p]).collect(heap)
 }
 
 /// Why priorities get no weights.
@@ -91,18 +69,24 @@ impl From<AllocError> for NoWeights {
     }
 }
 
+impl<T: Drop> From<AllocFailed<T>> for NoWeights {
+    ghost from_gives = { λ _ r. r ≡ Memory };
+
+    fn from(_e: AllocFailed<T>) -> NoWeights {
+        NoWeights::Memory
+    }
+}
+
 /// Weights below 256 for priorities of any size, in the same order and odd where they are: each place is won by the same side with the same plans.
+#[tactic(auto, using(crate::proofs::SameWins::same_wins))]
 pub fn compress(heap: Global, priorities: &[u32]) -> Result<Vec<u32>, NoWeights>
     ensures fitted { IfOk result (λ v. Fitted priorities.now v.items) }
     ensures unfit { IfErr result (λ e. Unfit priorities.now e) }
     ensures wins { SameWins }
 {
-    let mut out = Vec::from_slice(heap, priorities)?;
-    if all_low(priorities) {
-        return Ok(out);
+    if priorities.iter().all(|p| *p < WEIGHTS) {
+        return Ok(Vec::from_slice(heap, priorities)?);
     }
-    match spread(priorities, out.as_mut_slice()) {
-        Some(at) => Err(NoWeights::TooMany(at)),
-        None => Ok(out),
-    }
+    let weights = spread(heap, priorities)?;
+    Ok(replaced(heap, priorities, &weights)?)
 }

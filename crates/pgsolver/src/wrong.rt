@@ -1,7 +1,9 @@
 //! Why nodes are no game.
 ghost use Rattle.std.specs.Prelude.{◌≡◌};
 ghost use Rattle.pgsolver.specs.declared.wrong.Wrong.TheVariants.{Memory};
+ghost use Rattle.pgsolver.specs.Wrongs.{unweighed};
 
+use crate::weights::NoWeights;
 use std::alloc::{AllocError, AllocFailed};
 
 /// What is wrong with the nodes; the first number tells which node it is, from 0.
@@ -29,5 +31,16 @@ impl<T: Drop> From<AllocFailed<T>> for Wrong {
 
     fn from(_e: AllocFailed<T>) -> Wrong {
         Wrong::Memory
+    }
+}
+
+impl From<NoWeights> for Wrong {
+    ghost from_gives = { λ e r. r ≡ unweighed e };
+
+    fn from(e: NoWeights) -> Wrong {
+        match e {
+            NoWeights::TooMany(n) => Wrong::Priority(n),
+            NoWeights::Memory => Wrong::Memory,
+        }
     }
 }

@@ -1,38 +1,39 @@
-use Rattle.std.proofs.Common.{◌≡◌, length, Ok, sym, ap, ◌∙◌, arith}
-use Rattle.std.proofs.lemmas.List.{length-map, nil_from_length}
-use Rattle.std.proofs.lemmas.Bool.{eqb-true, eqb-false}
-use Rattle.pgsolver.specs.Held.{node_of}
-use Rattle.pgsolver.proofs.Assembling.{inside, listed}
+use Rattle.std.proofs.Common.{◌≡◌, List, map, length, vec_items, sym, ap, ◌∙◌, subst, arith, rules}
+use Rattle.std.proofs.lemmas.Iterator.{YieldsList-from_slice, YieldsList-from_map, items_from_collect}
+use Rattle.std.proofs.lemmas.Iterator.Adapters.{YieldsList-from_vec}
+use Rattle.std.proofs.lemmas.List.{length-map}
+use Rattle.std.proofs.lemmas.Result.{IfOk-at_ok}
+use Rattle.std.proofs.lemmas.Bool.{eqb-false}
+use Rattle.pgsolver.specs.declared.text.Node.{Node}
+use Rattle.pgsolver.specs.Form.{Entry, entries}
+use Rattle.pgsolver.specs.Held.{entry_of, entries_of, NodesRead}
+use Rattle.pgsolver.specs.Listed.{Assembles, Assembled}
+use Rattle.pgsolver.proofs.Assembling.{kept, ids_same, names_same, listed}
 use Rattle.pgsolver.proofs.Fines.{entries_good}
 use Rattle.pgsolver.proofs.read.Goals as goal
 
-pub returns-then-is_empty : goal.returns-then-is_empty
-returns-then-is_empty c =
-    let t = c.in-Ok.ensures in
-    let none : length t.0 ≡ 0 = omega (arith, eqb-true _ 0 (sym c.if-is_empty.ensures), c.in-Ok.nodes.nodes.ok.0, ap length t.2.nodes, length-map t.0 (λ e. node_of e.first (length e.goes) e.left)) in
-    record { listed = tt; says = t.1 ∙ ap Ok (nil_from_length t.0 none) }
+pub assemble-requires-clause-fine : goal.assemble-requires-clause-fine
+assemble-requires-clause-fine c =
+    let nodes = vec_items c.in_ok-nodes.nodes in
+    let said = subst (NodesRead (entries c.args.text.now)) (kept c.read_text.result c.map_err.result c.in_ok-nodes.nodes _ c.map_err.ensures.cases c.map_err.ensures.variant c.in_ok-nodes.was) c.read_text.ensures in
+    rw c.deref.ensures.value ((entries_good c.args.text.now (entries_of nodes) said).0)
 
-pub assemble-requires : goal.assemble-requires
-assemble-requires c =
-    let t = c.in-Ok.ensures in
-    let g = entries_good c.args.text.now t.0 t.1 in
-    (t.0, t.2, g.0, g.1)
+pub assemble-requires-clause-few : goal.assemble-requires-clause-few
+assemble-requires-clause-few c =
+    let nodes = vec_items c.in_ok-nodes.nodes in
+    let said = subst (NodesRead (entries c.args.text.now)) (kept c.read_text.result c.map_err.result c.in_ok-nodes.nodes _ c.map_err.ensures.cases c.map_err.ensures.variant c.in_ok-nodes.was) c.read_text.ensures in
+    omega (arith, (entries_good c.args.text.now (entries_of nodes) said).1, length-map nodes entry_of, ap length c.deref.ensures.value)
 
-pub refused-requires : goal.refused-requires
-refused-requires c =
-    let t = c.in-Ok.ensures in
-    let g = entries_good c.args.text.now t.0 t.1 in
-    inside t.0 _ (c.as_slice.ensures.value ∙ t.2.nodes) _ (c.in-Err-assemble.ensures t.0 t.2 g.0 g.1)
-
-pub returns-in-Err-assemble : goal.returns-in-Err-assemble
-returns-in-Err-assemble c =
-    let t = c.in-Ok.ensures in
-    let g = entries_good c.args.text.now t.0 t.1 in
-    record { listed = tt; says = c.refused.ensures t.0 (c.as_slice.ensures.value ∙ t.2.nodes) t.1 (c.in-Err-assemble.ensures t.0 t.2 g.0 g.1) }
-
-pub returns : goal.returns
-returns c =
-    let t = c.in-Ok.ensures in
-    let g = entries_good c.args.text.now t.0 t.1 in
-    let some : length t.0 ≡ 0 → ⊥ = λ e. eqb-false _ 0 (sym c.if-is_empty.ensures) (omega (arith, e, c.in-Ok.nodes.nodes.ok.0, ap length t.2.nodes, length-map t.0 (λ e. node_of e.first (length e.goes) e.left))) in
-    record { listed = listed c.args.text.now t.0 _ _ _ t.1 g.1 some (c.in-Ok-assemble.ensures t.0 t.2 g.0 g.1) (c.into_names-names.ensures ∙ t.2.names); says = tt }
+pub returns-clause-listed : goal.returns-clause-listed
+returns-clause-listed c =
+    let nodes : List Node = vec_items c.in_ok-nodes.nodes in
+    let es : List Entry = entries_of nodes in
+    let said = subst (NodesRead (entries c.args.text.now)) (kept c.read_text.result c.map_err.result c.in_ok-nodes.nodes _ c.map_err.ensures.cases c.map_err.ensures.variant c.in_ok-nodes.was) c.read_text.ensures in
+    let some : length es ≡ 0 → ⊥ = λ e. eqb-false _ 0 (sym c.if-is_empty.ensures) (omega (arith, e, c.in_ok-nodes.nodes.ok.0, length-map nodes entry_of)) in
+    let made = subst (Assembled (entries_of c.deref.result.now)) (kept c.assemble.result c.map_err-2.result c.in_ok-words.words _ c.map_err-2.ensures.cases c.map_err-2.ensures.variant c.in_ok-words.was) c.assemble.ensures in
+    let ids = items_from_collect c.collect.result c.collect.ensures.ran (YieldsList-from_map _ (λ n. n.head.id) (YieldsList-from_slice nodes (cc)) c.map.ensures.closure (λ x r q k. search rules)) in
+    let names = items_from_collect c.collect-2.result c.collect-2.ensures.ran (YieldsList-from_map _ (λ n. n.name) (YieldsList-from_vec nodes (cc) (cc)) c.map-2.ensures.closure (λ x r q k. search rules)) in
+    listed c.args.text.now es _ _ _ said ((entries_good c.args.text.now es said).1) some
+    (subst (λ l. Assembles (entries_of l) (vec_items c.in_ok-words.words)) c.deref.ensures.value made)
+    (IfOk-at_ok _ c.in_ok-ids.was ids ∙ ids_same nodes)
+    (ap (map vec_items) (IfOk-at_ok _ c.in_ok-names.was names) ∙ names_same nodes)

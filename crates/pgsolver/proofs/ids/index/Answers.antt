@@ -1,27 +1,27 @@
-use Rattle.std.proofs.Common.{map, length, take, sym, refl, ap, ◌∙◌, subst, arith}
-use Rattle.std.proofs.lemmas.List.{take_all, length-map, length-take}
-use Rattle.pgsolver.specs.Table.{Apart}
-use Rattle.pgsolver.proofs.Writes.{apart_more, ids_more, again_at, apart_none}
+use Rattle.std.proofs.Common.{◌≡◌, ◌<◌, ℕ, List, true, false, length, get_or, sym, ap, ◌∙◌, arith, rules}
+use Rattle.std.specs.Option.{is_some}
+use Rattle.std.proofs.lemmas.List.{length-map}
+use Rattle.pgsolver.specs.Form.{ids_in}
+use Rattle.pgsolver.specs.Held.{entry_of, entries_of}
+use Rattle.pgsolver.proofs.Assembling.{id_is}
+use Rattle.pgsolver.proofs.Writes.{indexed_twice, indexed_more}
 use Rattle.pgsolver.proofs.ids.index.Goals as goal
 
-pub loop-n-init : goal.loop-n-init
-loop-n-init c =
-    let t = c.in_ok-ids.ensures in
-    (omega arith, t.0, t.1, apart_none _ t.1)
-
-pub returns-in-Some : goal.returns-in-Some
-returns-in-Some c =
-    let t = c.in-Some.ensures in
-    again_at _ _ c.loop-n-test.true _ _ refl _ c.loop-n.invariant.2 _ t.0 t.1
-
-pub add-requires : goal.add-requires
-add-requires c = record { sound = c.loop-n.invariant.1; room = omega (arith, c.requires, c.loop-n-test.true, ap length c.loop-n.invariant.2, length-map (take c.loop-n.n c.args.nodes.now) (λ n. n.id), length-take c.loop-n.n c.args.nodes.now) }
+pub returns-then-is_some : goal.returns-then-is_some
+returns-then-is_some c =
+    let nodes = c.args.nodes.now in
+    let ids : List ℕ = ids_in (entries_of nodes) in
+    let n = c.loop-n.n in
+    let is : get_or ids n 0 ≡ c.index-nodes-n.result.head.id = sym (id_is nodes n c.index-nodes-n.result c.loop-n-test.true) ∙ ap (λ d. d.head.id) (sym c.index-nodes-n.is) in
+    let inside : n < length ids = omega (arith, c.loop-n-test.true, length-map nodes entry_of, length-map (entries_of nodes) (λ e. e.first.id)) in
+    let some : is_some c.in_ok-insert.field-0 ≡ true = search rules in
+    indexed_twice ids _ n _ c.loop-n.invariant is inside _ c.in_ok-insert.ensures.old some
 
 pub loop-n-preserved : goal.loop-n-preserved
 loop-n-preserved c =
-    let t = c.in_ok-add.ensures in
-    let f = c.in_default.ensures in
-    (omega (arith, c.loop-n-test.true), t.0, ids_more _ _ c.loop-n-test.true _ _ refl _ _ c.loop-n.invariant.2 t.1, subst Apart (sym t.1) (apart_more _ _ c.loop-n.invariant.3 f))
-
-pub returns : goal.returns
-returns c = (c.loop-n.invariant.1, c.loop-n.invariant.2 ∙ ap (λ l. map (λ n. n.id) l) (take_all _ _ c.loop-n-test.false), c.loop-n.invariant.3)
+    let nodes = c.args.nodes.now in
+    let ids : List ℕ = ids_in (entries_of nodes) in
+    let n = c.loop-n.n in
+    let is : get_or ids n 0 ≡ c.index-nodes-n.result.head.id = sym (id_is nodes n c.index-nodes-n.result c.loop-n-test.true) ∙ ap (λ d. d.head.id) (sym c.index-nodes-n.is) in
+    let none : is_some c.in_ok-insert.field-0 ≡ false = search rules in
+    indexed_more ids _ n _ c.loop-n.invariant is _ c.in_ok-insert.ensures.old none _ c.in_ok-insert.ensures.updates

@@ -1,12 +1,14 @@
-use Rattle.std.proofs.Common.{sym, arith}
-use Rattle.pgsolver.proofs.Scans.{skip_more, skip_here, skip_end}
+use Rattle.std.proofs.Common.{ap, ◌∙◌, drop, rules, tests}
+use Rattle.std.proofs.lemmas.Iterator.{YieldsList-from_slice}
+use Rattle.std.proofs.lemmas.Iterator.Consumers.{count_from_yields_List}
+use Rattle.std.proofs.lemmas.Iterator.Search.{YieldsList-from_take_while}
+use Rattle.std.proofs.lemmas.List.{take_rest}
+use Rattle.std.proofs.lemmas.List.Folds.{length-prefix_len}
+use Rattle.pgsolver.specs.Form.{blank}
 use Rattle.pgsolver.proofs.scan.skip.Goals as goal
 
-pub returns-then-not-is_blank : goal.returns-then-not-is_blank
-returns-then-not-is_blank c = skip_here _ _ c.loop-n.invariant.1 c.loop-n-test.true (sym c.if-not-is_blank.ensures)
-
-pub loop-n-preserved : goal.loop-n-preserved
-loop-n-preserved c = (omega (arith, c.loop-n-test.true), skip_more _ _ c.loop-n.invariant.1 c.loop-n-test.true (sym c.if-not-is_blank.ensures))
-
 pub returns : goal.returns
-returns c = skip_end _ _ c.loop-n.invariant.1 c.loop-n-test.false
+returns c =
+    let text = c.args.text.now in
+    let many = count_from_yields_List c.take_while.result _ c.count-blanks.ensures.ran (YieldsList-from_take_while _ blank (YieldsList-from_slice text (cc)) c.take_while.ensures.closure c.take_while.ensures.done (λ x b q k. search (rules, tests))) ∙ length-prefix_len blank text in
+    take_rest text c.count-blanks.result ∙ ap (λ n. drop n text) many

@@ -1,11 +1,20 @@
-use Rattle.std.proofs.Common.{◌+◌, ◌%◌, ◌<◌, get_or, sym, refl, subst, arith}
-use Rattle.pgsolver.proofs.Compressing.{Spread, spread_more}
+use Rattle.std.proofs.Common.{◌≡◌, ℕ, ◌<◌, true, false, length, refl, ⊎_elim, arith}
+use Rattle.std.proofs.lemmas.Bool.{cases_lt}
+use Rattle.pgsolver.proofs.Compressing.{spreading_first, spreading_full, spreading_more, spreading_all}
 use Rattle.pgsolver.proofs.weights.spread.Goals as goal
 
-pub loop-at-preserved : goal.loop-at-preserved
-loop-at-preserved c =
-    let t = c.in-Some.ensures in
-    let p = get_or c.args.priorities.now c.in-Some.at 0 in
-    let w = c.loop-at.lowest + (p % 2 + c.loop-at.lowest) % 2 in
-    let low : w < 256 = omega (arith, c.if-weight-ge-WEIGHTS.false) in
-    (omega (arith, c.from-bound.ensures, (c.type_inv.priorities c.in-Some.at).fits), subst (λ m. Spread c.args.priorities.now c.mark.new.out (m + 1) (w + 1)) (sym c.from-bound.ensures) (spread_more c.args.priorities.now _ _ _ c.loop-at.invariant.1 _ t.0 t.1 t.2 p w refl refl low _ c.mark.ensures))
+pub loop-priority-init : goal.loop-priority-init
+loop-priority-init c = spreading_first _ _ _ c.in_ok-left.ensures
+
+pub returns-then-weight-ge-WEIGHTS : goal.returns-then-weight-ge-WEIGHTS
+returns-then-weight-ge-WEIGHTS c = spreading_full _ _ _ _ c.loop-priority.invariant _ _ c.in-Some.ensures.value c.in-Some.ensures.least _ refl c.if-weight-ge-WEIGHTS.true
+
+pub loop-priority-preserved : goal.loop-priority-preserved
+loop-priority-preserved c = spreading_more _ _ _ _ c.loop-priority.invariant _ _ c.in-Some.ensures.value c.in-Some.ensures.least _ refl (omega (arith, c.if-weight-ge-WEIGHTS.false)) _ _ c.in_ok-insert.ensures.updates c.in-Some.ensures.updates
+
+-- no first entry is taken from a map without entries
+no_more : (n : ℕ) → (0 < n → false ≡ true) → n ≡ 0
+no_more n h = ⊎_elim (λ l. absurd (let z : false ≡ true = h l in cc)) (λ l. omega arith) (cases_lt 0 n)
+
+pub returns : goal.returns
+returns c = spreading_all _ _ _ _ c.loop-priority.invariant (no_more (length c.loop-priority.left.entries) c.in_default.ensures.variant.1)
