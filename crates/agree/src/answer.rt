@@ -1,30 +1,20 @@
-//! The calls that are tried.
+//! The call that is tried beside `solve`.
+use allplans::side::Side;
+use endless::Refusal;
 use endless::answer::PlaceId;
-use endless::reach::{Reached, attract_to};
-use endless::side::Side;
-use endless::{Solved, solve};
+use endless::reach::attract_to;
 
-/// Writes an answer for the game that these words are, and says whether one
-/// was found.
-pub(crate) fn answer(words: &[u32], out: &mut [u32], work: &mut [u32]) -> bool {
-    match solve(words, out, work) {
-        Solved::Done => true,
-        Solved::OutFull | Solved::NoGame | Solved::Few => false,
-    }
-}
-
-/// Writes from where a side can bring every play to a place, and says whether
-/// that was found.
+/// Writes from where a side can bring every play to a place, as an answer.
 pub(crate) fn attractor(
     words: &[u32],
     target: u32,
-    side: u32,
+    side: Side,
     out: &mut [u32],
     work: &mut [u32],
-) -> bool {
-    let side = if side == 0 { Side::Even } else { Side::Odd };
-    match attract_to(words, PlaceId(target), side, out, work) {
-        Reached::Done => true,
-        Reached::OutFull | Reached::NoPlace | Reached::NoGame | Reached::Few => false,
-    }
+) -> Result<(), Refusal> {
+    let side = match side {
+        Side::Even => endless::side::Side::Even,
+        Side::Odd => endless::side::Side::Odd,
+    };
+    attract_to(words, PlaceId(target), side, out, work)
 }

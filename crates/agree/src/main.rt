@@ -7,12 +7,14 @@ mod report;
 mod trial;
 
 use allplans::families;
-use allplans::game::Game;
+use allplans::fault::Fault;
+use allplans::fine::FineGame;
 use allplans::random::Random;
+use allplans::side::Side;
 use report::{Error, Report};
 use std::alloc::Global;
 use std::process::ExitCode;
-use trial::By;
+use trial::{by_all_plans, by_rounds};
 
 fn main(rt: HostRuntime) -> ExitCode {
     match run(&rt) {
@@ -38,17 +40,20 @@ fn run(rt: &HostRuntime) -> Result<(), Error> {
 /// The small worked games, by all plans.
 fn worked(heap: Global, report: &mut Report) -> Result<(), Error> {
     report.head("against all plans, and by rounds")?;
-    report.try_game(&families::three(heap)?, By::AllPlans)?;
+    report.try_game(&families::three(heap)?, &by_all_plans)?;
     report.line("three places")?;
     for weight in [0, 1, 2, 3, 60, 61, 254, 255] {
-        for whose in 0..2 {
-            report.try_game(&families::one(heap, whose, weight)?, By::AllPlans)?;
+        for side in [Side::Even, Side::Odd] {
+            report.try_game(
+                &families::one(heap, u32::from(side), weight)?,
+                &by_all_plans,
+            )?;
         }
     }
     report.line("one place")?;
     for places in 1..9 {
-        report.try_game(&families::all_same(heap, places, 4)?, By::AllPlans)?;
-        report.try_game(&families::all_same(heap, places, 7)?, By::AllPlans)?;
+        report.try_game(&families::all_same(heap, places, 4)?, &by_all_plans)?;
+        report.try_game(&families::all_same(heap, places, 7)?, &by_all_plans)?;
     }
     report.line("all the same weight")
 }
@@ -57,18 +62,13 @@ fn worked(heap: Global, report: &mut Report) -> Result<(), Error> {
 fn small(heap: Global, report: &mut Report) -> Result<(), Error> {
     let mut random = Random::new(2009);
     for places in 1..9 {
-        for turn in 0..625 {
-            let weights = match turn % 5 {
-                0 => 2,
-                1 => 3,
-                2 => 5,
-                3 => 12,
-                _ => 256,
-            };
-            report.try_game(
-                &families::at_random(heap, &mut random, places, 1, 3, weights)?,
-                By::AllPlans,
-            )?;
+        for _ in 0..125 {
+            for weights in [2, 3, 5, 12, 256] {
+                report.try_game(
+                    &families::at_random(heap, &mut random, places, 1, 3, weights)?,
+                    &by_all_plans,
+                )?;
+            }
         }
         report.sized("at random, places", places)?;
     }
@@ -83,8 +83,8 @@ fn attractors(heap: Global, report: &mut Report) -> Result<(), Error> {
         for _ in 0..125 {
             let game = families::at_random(heap, &mut random, places, 1, 3, 2)?;
             for target in 0..places {
-                report.try_attractor(&game, target, 0)?;
-                report.try_attractor(&game, target, 1)?;
+                report.try_attractor(&game, target, Side::Even)?;
+                report.try_attractor(&game, target, Side::Odd)?;
             }
         }
         report.sized("at random, places", places)?;
@@ -92,35 +92,39 @@ fn attractors(heap: Global, report: &mut Report) -> Result<(), Error> {
     Ok(())
 }
 
-/// A game, and the same with the sides changed, by rounds.
-fn both(heap: Global, report: &mut Report, name: &str, game: Game) -> Result<(), Error> {
-    report.try_game(&game, By::Rounds)?;
+/// Games, and the same with the sides changed, by rounds.
+fn both(heap: Global, report: &mut Report, name: &str, games: &[FineGame]) -> Result<(), Error> {
+    for game in games {
+        report.try_game(game, &by_rounds)?;
+    }
     report.line(name)?;
-    report.try_game(&families::mirrored(heap, &game)?, By::Rounds)?;
+    for game in games {
+        report.try_game(&families::mirrored(heap, &game.game)?, &by_rounds)?;
+    }
     report.line("  with the sides changed")
 }
 
 /// Games on which some methods take long.
 fn hard(heap: Global, report: &mut Report) -> Result<(), Error> {
     report.head("by rounds")?;
-    both(heap, report, "ladder", families::ladder(heap, 60)?)?;
-    both(heap, report, "measures", families::measures(heap, 13, 22)?)?;
+    both(heap, report, "ladder", &[families::ladder(heap, 60)?])?;
+    both(
+        heap,
+        report,
+        "measures",
+        &[families::measures(heap, 13, 22)?],
+    )?;
     both(
         heap,
         report,
         "binary counter",
-        families::binary_counter(heap, 29, 6)?,
+        &[families::binary_counter(heap, 29, 6)?],
     )?;
-    both(heap, report, "tree", families::tree(heap, 149)?)?;
-    for levels in 1..11 {
-        report.try_game(&families::recursive_ladder(heap, levels)?, By::Rounds)?;
-    }
-    report.line("recursive ladders")?;
-    for levels in 1..11 {
-        let game = families::recursive_ladder(heap, levels)?;
-        report.try_game(&families::mirrored(heap, &game)?, By::Rounds)?;
-    }
-    report.line("  with the sides changed")
+    both(heap, report, "tree", &[families::tree(heap, 149)?])?;
+    let ladders: Vec<FineGame> = (1..11)
+        .map(|levels| -> Result<FineGame, Fault> { families::recursive_ladder(heap, levels) })
+        .try_collect(heap)?;
+    both(heap, report, "recursive ladders", ladders.as_slice())
 }
 
 /// Large games at random.
@@ -130,12 +134,12 @@ fn large(heap: Global, report: &mut Report) -> Result<(), Error> {
         heap,
         report,
         "clusters",
-        families::clusters(heap, &mut random, 32, 64, 16)?,
+        &[families::clusters(heap, &mut random, 32, 64, 16)?],
     )?;
     for weights in [2, 8, 64, 256] {
         report.try_game(
             &families::at_random(heap, &mut random, 16384, 3, 3, weights)?,
-            By::Rounds,
+            &by_rounds,
         )?;
         report.sized("at random, weights", weights)?;
     }

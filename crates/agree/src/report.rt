@@ -1,9 +1,11 @@
 //! What the program prints.
-use crate::trial::{By, Desk, Tally, Wrong};
-use allplans::checker::Verdict;
+use crate::trial::{Desk, Tally, Wrong};
+use allplans::checker::Answer;
 use allplans::fault::Fault;
+use allplans::fine::FineGame;
 use allplans::game::Game;
-use std::alloc::AllocError;
+use allplans::side::Side;
+use std::alloc::{AllocError, Global};
 use std::{fmt, io};
 
 /// Why the program stopped.
@@ -38,9 +40,7 @@ impl From<io::Error> for Error {
 impl fmt::Display for Error {
     fn fmt<W: fmt::Write>(&self, f: &mut fmt::Formatter<W>) -> fmt::Result {
         match self {
-            Error::Fault(Fault::NoMemory) => write!(f, "no memory"),
-            Error::Fault(Fault::NoGame) => write!(f, "what was made is no game"),
-            Error::Fault(Fault::ManyPlans) => write!(f, "too many plans to try"),
+            Error::Fault(fault) => write!(f, "{fault}"),
             Error::Io(error) => write!(f, "{error}"),
             Error::Disagreed(games) => write!(f, "{games} games disagreed"),
             Error::NotRefused(answers) => write!(f, "{answers} spoilt answers were not refused"),
@@ -55,11 +55,8 @@ pub struct Report<'a> {
     desk: Desk,
     /// The games since the last line.
     tally: Tally,
-    /// How many games there were in all, how many disagreed, and how many
-    /// spoilt answers were refused.
-    games: u32,
-    disagreed: u32,
-    refused: u32,
+    /// The games of all lines.
+    total: Tally,
 }
 
 impl<'a> Report<'a> {
@@ -68,10 +65,8 @@ impl<'a> Report<'a> {
         Ok(Report {
             rt,
             desk,
-            tally: Tally::new(),
-            games: 0,
-            disagreed: 0,
-            refused: 0,
+            tally: Tally::default(),
+            total: Tally::default(),
         })
     }
 
@@ -83,16 +78,24 @@ impl<'a> Report<'a> {
         Ok(())
     }
 
-    /// Tries a game, and prints it if its answer is wrong.
-    pub fn try_game(&mut self, game: &Game, by: By) -> Result<(), Error> {
-        if let Some(wrong) = self.desk.try_game(game, by, &mut self.tally)? {
+    /// Tries a game, and prints it if `compare` finds its answer wrong.
+    pub fn try_game<F: Fn(Global, &Game, &Answer) -> Result<Option<Wrong>, Fault>>(
+        &mut self,
+        game: &FineGame,
+        compare: &F,
+    ) -> Result<(), Error>
+        requires { F.IsAlwaysCallable compare.now }
+    {
+        let game = &game.game;
+        if let Some(wrong) = self.desk.try_game(game, compare, &mut self.tally)? {
             self.show(game, &wrong)?;
         }
         Ok(())
     }
 
     /// Tries an attractor of a game, and prints the game if it is wrong.
-    pub fn try_attractor(&mut self, game: &Game, target: u32, side: u32) -> Result<(), Error> {
+    pub fn try_attractor(&mut self, game: &FineGame, target: u32, side: Side) -> Result<(), Error> {
+        let game = &game.game;
         if let Some(wrong) = self
             .desk
             .try_attractor(game, target, side, &mut self.tally)?
@@ -105,30 +108,7 @@ impl<'a> Report<'a> {
     fn show(&self, game: &Game, wrong: &Wrong) -> Result<(), Error> {
         let words = game.words(self.rt.alloc())?;
         println!(self.rt; "disagreed on {words:?}:")?;
-        match wrong {
-            Wrong::NoAnswer => println!(self.rt; "  no answer")?,
-            Wrong::Attractor { target, side } => println!(self.rt;
-                "  another attractor of place {target} for side {side}"
-            )?,
-            Wrong::Winner(place) => println!(self.rt;
-                "  all plans have another winner at place {place}"
-            )?,
-            Wrong::Checker(verdict) => match verdict {
-                Verdict::Right => println!(self.rt; "  nothing is wrong")?,
-                Verdict::Short => println!(self.rt; "  the answer is too short")?,
-                Verdict::NoSide(place) => println!(self.rt; "  no side wins place {place}")?,
-                Verdict::NoMove(place) => println!(self.rt;
-                    "  the plan has no move at place {place}"
-                )?,
-                Verdict::Leaves(place) => println!(self.rt;
-                    "  a play can leave from place {place}"
-                )?,
-                Verdict::WrongRound(round) => println!(self.rt;
-                    "  a round of the wrong kind: {round:?}"
-                )?,
-                Verdict::Unclear => println!(self.rt; "  the ranks do not fall")?,
-            },
-        }
+        println!(self.rt; "  {wrong}")?;
         Ok(())
     }
 
@@ -140,13 +120,11 @@ impl<'a> Report<'a> {
             even,
             odd,
             disagreed,
-            refused,
+            ..
         } = self.tally;
         println!(self.rt; "{name:<32} {games:>6} {places:>7} {even:>7} {odd:>7} {disagreed:>9}")?;
-        self.games = self.games.saturating_add(games);
-        self.disagreed = self.disagreed.saturating_add(disagreed);
-        self.refused = self.refused.saturating_add(refused);
-        self.tally = Tally::new();
+        self.total = self.total.and(self.tally);
+        self.tally = Tally::default();
         Ok(())
     }
 
@@ -159,9 +137,12 @@ impl<'a> Report<'a> {
     /// The last lines; an error if a game disagreed, or an answer with a
     /// winner changed was not refused.
     pub fn end(&self) -> Result<(), Error> {
-        let games = self.games;
-        let disagreed = self.disagreed;
-        let refused = self.refused;
+        let Tally {
+            games,
+            disagreed,
+            refused,
+            ..
+        } = self.total;
         println!(self.rt; "{games} games, {disagreed} disagreed")?;
         println!(self.rt; "{games} answers with one winner changed, {refused} refused")?;
         if disagreed > 0 {

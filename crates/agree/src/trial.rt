@@ -1,27 +1,21 @@
 //! A game is tried: solved, and the answer compared.
-use crate::answer::{answer, attractor};
-use allplans::checker::{Answer, Verdict};
+use crate::answer::attractor;
+use allplans::checker::{Answer, Claim, Refusal};
 use allplans::fault::Fault;
 use allplans::game::Game;
 use allplans::plans::Winner;
+use allplans::side::Side;
 use allplans::{checker, plans, reach};
+use endless::solve;
 use std::alloc::Global;
+use std::fmt;
 
 /// The most words that a game here has: 16,384 places with three moves each,
 /// or fewer places with more.
 const MOST_WORDS: usize = 1 + 16384 * 6;
 
-/// How a game is compared.
-#[derive(Clone, Copy)]
-pub enum By {
-    /// By trying all plans of both sides, and by rounds.
-    AllPlans,
-    /// By rounds alone.
-    Rounds,
-}
-
 /// How many games were tried, and what came out.
-#[derive(Clone, Copy)]
+#[derive(Clone, Copy, Default)]
 pub struct Tally {
     pub games: u32,
     pub places: u32,
@@ -33,27 +27,28 @@ pub struct Tally {
 }
 
 impl Tally {
-    pub fn new() -> Tally {
-        Tally {
-            games: 0,
-            places: 0,
-            even: 0,
-            odd: 0,
-            disagreed: 0,
-            refused: 0,
-        }
-    }
-
     /// Counts the places of an answer, by who wins them.
     fn count(&mut self, answer: &Answer) {
         self.games = self.games.saturating_add(1);
-        for winner in answer.winners.iter() {
+        for claim in answer.claims.iter() {
             self.places = self.places.saturating_add(1);
-            match *winner {
-                0 => self.even = self.even.saturating_add(1),
-                1 => self.odd = self.odd.saturating_add(1),
-                _ => {}
+            match Side::try_from(claim.winner) {
+                Ok(Side::Even) => self.even = self.even.saturating_add(1),
+                Ok(Side::Odd) => self.odd = self.odd.saturating_add(1),
+                Err(_) => {}
             }
+        }
+    }
+
+    /// What came out of both.
+    pub fn and(self, other: Tally) -> Tally {
+        Tally {
+            games: self.games.saturating_add(other.games),
+            places: self.places.saturating_add(other.places),
+            even: self.even.saturating_add(other.even),
+            odd: self.odd.saturating_add(other.odd),
+            disagreed: self.disagreed.saturating_add(other.disagreed),
+            refused: self.refused.saturating_add(other.refused),
         }
     }
 }
@@ -64,11 +59,24 @@ pub enum Wrong {
     /// The solver gave no answer.
     NoAnswer,
     /// The attractor of a place for a side is another.
-    Attractor { target: u32, side: u32 },
+    Attractor { target: u32, side: Side },
     /// All plans have another winner here.
     Winner(usize),
     /// The checker says so.
-    Checker(Verdict),
+    Checker(checker::Wrong),
+}
+
+impl fmt::Display for Wrong {
+    fn fmt<W: fmt::Write>(&self, f: &mut fmt::Formatter<W>) -> fmt::Result {
+        match self {
+            Wrong::NoAnswer => write!(f, "no answer"),
+            Wrong::Attractor { target, side } => {
+                write!(f, "another attractor of place {target} for side {side}")
+            }
+            Wrong::Winner(place) => write!(f, "all plans have another winner at place {place}"),
+            Wrong::Checker(wrong) => write!(f, "{wrong}"),
+        }
+    }
 }
 
 /// Memory for the solver, used again for each game.
@@ -87,31 +95,33 @@ impl Desk {
     }
 
     /// Solves a game, counts it, and says what is wrong with the answer, if
-    /// anything is.
-    pub fn try_game(
+    /// `compare` finds anything.
+    pub fn try_game<F: Fn(Global, &Game, &Answer) -> Result<Option<Wrong>, Fault>>(
         &mut self,
         game: &Game,
-        by: By,
+        compare: &F,
         tally: &mut Tally,
-    ) -> Result<Option<Wrong>, Fault> {
+    ) -> Result<Option<Wrong>, Fault>
+        requires { F.IsAlwaysCallable compare.now }
+    {
         let words = game.words(self.heap)?;
-        let solved = answer(
+        let solved = solve(
             words.as_slice(),
             self.out.as_mut_slice(),
             self.work.as_mut_slice(),
         );
         let mut found = Answer::read(self.heap, self.answered(game.len()))?;
         tally.count(&found);
-        let wrong = if solved {
-            compare(self.heap, game, &found, by)?
+        let wrong = if solved.is_ok() {
+            compare(self.heap, game, &found)?
         } else {
             Some(Wrong::NoAnswer)
         };
         if wrong.is_some() {
             tally.disagreed = tally.disagreed.saturating_add(1);
         }
-        change_winner(found.winners.as_mut_slice(), tally.games);
-        if is_refused(self.heap, game, &found)? {
+        change_winner(found.claims.as_mut_slice(), tally.games);
+        if by_rounds(self.heap, game, &found)?.is_some() {
             tally.refused = tally.refused.saturating_add(1);
         }
         Ok(wrong)
@@ -124,7 +134,7 @@ impl Desk {
         &mut self,
         game: &Game,
         target: u32,
-        side: u32,
+        side: Side,
         tally: &mut Tally,
     ) -> Result<Option<Wrong>, Fault> {
         let words = game.words(self.heap)?;
@@ -137,10 +147,10 @@ impl Desk {
         );
         let mut found = Answer::read(self.heap, self.answered(game.len()))?;
         tally.count(&found);
-        let plain = reach::attractor(self.heap, game, target as usize, side)?;
-        let right = solved && same_places(plain.as_slice(), found.winners.as_slice(), side);
-        change_winner(found.winners.as_mut_slice(), tally.games);
-        if !same_places(plain.as_slice(), found.winners.as_slice(), side) {
+        let plain = reach::attractor(self.heap, game, target as usize, u32::from(side))?;
+        let right = solved.is_ok() && same_places(plain.as_slice(), found.claims.as_slice(), side);
+        change_winner(found.claims.as_mut_slice(), tally.games);
+        if !same_places(plain.as_slice(), found.claims.as_slice(), side) {
             tally.refused = tally.refused.saturating_add(1);
         }
         if right {
@@ -153,65 +163,53 @@ impl Desk {
     /// The words of the answer for so many places.
     fn answered(&self, places: usize) -> &[u32] {
         let out = self.out.as_slice();
-        if places <= out.len() / 2 {
-            &out[0..2 * places]
-        } else {
-            out
-        }
+        out.get(..places.saturating_mul(2)).unwrap_or(out)
     }
 }
 
-/// What is wrong with an answer, if anything is.
-fn compare(heap: Global, game: &Game, answer: &Answer, by: By) -> Result<Option<Wrong>, Fault> {
-    if let By::AllPlans = by {
-        let winners = plans::winners(heap, game)?;
-        if let Some(place) = first_other(winners.as_slice(), answer.winners.as_slice()) {
-            return Ok(Some(Wrong::Winner(place)));
-        }
+/// What is wrong with an answer by trying all plans of both sides, and by
+/// rounds.
+pub fn by_all_plans(heap: Global, game: &Game, answer: &Answer) -> Result<Option<Wrong>, Fault> {
+    let winners = plans::winners(heap, game)?;
+    match first_other(winners.as_slice(), answer.claims.as_slice()) {
+        Some(place) => Ok(Some(Wrong::Winner(place))),
+        None => by_rounds(heap, game, answer),
     }
-    match checker::check(heap, game, answer)? {
-        Verdict::Right => Ok(None),
-        verdict => Ok(Some(Wrong::Checker(verdict))),
+}
+
+/// What is wrong with an answer by rounds alone.
+pub fn by_rounds(heap: Global, game: &Game, answer: &Answer) -> Result<Option<Wrong>, Fault> {
+    match checker::check(heap, game, answer) {
+        Ok(()) => Ok(None),
+        Err(Refusal::Wrong(wrong)) => Ok(Some(Wrong::Checker(wrong))),
+        Err(Refusal::Fault(fault)) => Err(fault),
     }
 }
 
 /// Gives one place, chosen by `turn`, to the other side.
-fn change_winner(winners: &mut [u32], turn: u32) {
-    if winners.is_empty() {
+fn change_winner(claims: &mut [Claim], turn: u32) {
+    let Some(place) = (turn as usize).checked_rem(claims.len()) else {
         return;
-    }
-    let place = turn as usize % winners.len();
-    winners[place] = if winners[place] == 0 { 1 } else { 0 };
-}
-
-/// Whether the checker finds something wrong with an answer.
-fn is_refused(heap: Global, game: &Game, answer: &Answer) -> Result<bool, Fault> {
-    match checker::check(heap, game, answer)? {
-        Verdict::Right => Ok(false),
-        _ => Ok(true),
+    };
+    if let Some(claim) = claims.get_mut(place) {
+        let winner = Side::try_from(claim.winner).map_or(Side::Even, |side| side.other());
+        claim.winner = u32::from(winner);
     }
 }
 
 /// The first place that the answer does not give to the one side that wins it.
-fn first_other(winners: &[Winner], answer: &[u32]) -> Option<usize> {
-    for (place, winner) in winners.iter().enumerate() {
-        let same = match (*winner, answer.get(place)) {
-            (Winner::Side(side), Some(said)) => side == *said,
-            _ => false,
-        };
-        if !same {
-            return Some(place);
-        }
-    }
-    None
+fn first_other(winners: &[Winner], claims: &[Claim]) -> Option<usize> {
+    winners.iter().enumerate().position(|(place, winner)| {
+        let claimed = claims
+            .get(place)
+            .and_then(|claim| Side::try_from(claim.winner).ok());
+        claimed.map(|side| Winner::Side(side)) != Some(*winner)
+    })
 }
 
 /// Whether the answer gives `side` just the places that are taken.
-fn same_places(taken: &[bool], winners: &[u32], side: u32) -> bool {
-    for (taken, winner) in taken.iter().zip(winners.iter()) {
-        if *taken != (*winner == side) {
-            return false;
-        }
-    }
-    taken.len() == winners.len()
+fn same_places(taken: &[bool], claims: &[Claim], side: Side) -> bool {
+    taken.len() == claims.len()
+        && taken.iter().zip(claims).all(|(taken, claim)| *taken
+            == (claim.winner == u32::from(side)))
 }

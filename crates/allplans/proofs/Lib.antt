@@ -1,3 +1,4 @@
 mod Written
 mod Views
+mod Claims
 mod Checks

@@ -1,7 +1,10 @@
 -- What stands at a place, and rounds along which ranks fall.
-use Rattle.std.proofs.Common.{◌≡◌, ℕ, zero, suc, ◌+◌, ◌-◌, ◌<◌, ◌≤◌, Bool, cond, ◌⊎◌, List, [], ◌∷◌, length, get_or, take, drop, vec_items, sym, refl, ap, ◌∙◌, subst, inl, inr, le_refl, eq-or-lt_of_le, arith, drop-cons}
-use Rattle.std.proofs.lemmas.Bool.{eq-eqb, ne_eqb}
+use Rattle.std.proofs.Common.{◌≡◌, ℕ, zero, suc, ◌+◌, ◌-◌, ◌<◌, ◌≤◌, cond, ◌⊎◌, List, [], ◌∷◌, length, get_or, vec_items, sym, refl, ap, ◌∙◌, subst, inl, inr, le_refl, eq-or-lt_of_le, arith}
+use Rattle.std.specs.Prelude.{◌==◌}
+use Rattle.std.proofs.lemmas.List.{get_or-map}
 use Rattle.allplans.specs.declared.game.Place.{Place}
+use Rattle.allplans.specs.declared.answer.Claim.{Claim}
+use Rattle.allplans.specs.Claims.{plan}
 use Rattle.allplans.specs.Rounds.{whose, weight, moves, goes_to, Among, Inside, Round, FallsBy}
 
 pub whose_at : (ps : List Place) (v : ℕ) (d : Place) → v < length ps → whose ps v ≡ (get_or ps v d).whose
@@ -19,18 +22,13 @@ moves_at [] v d h = absurd (omega arith)
 moves_at (p ∷ ps) zero d h = refl
 moves_at (p ∷ ps) (suc v) d h = moves_at ps v d (omega arith)
 
--- the steps at a place of the side, and at one of the other side
-pub goes_planned : (ps : List Place) (plan : List ℕ) (side v : ℕ) (d : Place) → v < length ps → (get_or ps v d).whose ≡ side → goes_to ps plan side v ≡ get_or plan v 0 ∷ []
-goes_planned ps plan side v d h w = ap (λ (b : Bool). cond b (get_or plan v 0 ∷ []) (moves ps v)) (eq-eqb (whose ps v) side (whose_at ps v d h ∙ w))
-
-pub goes_free : (ps : List Place) (plan : List ℕ) (side v : ℕ) (d : Place) → v < length ps → ((get_or ps v d).whose ≡ side → ⊥) → goes_to ps plan side v ≡ vec_items (get_or ps v d).moves
-goes_free ps plan side v d h w =
-    ap (λ (b : Bool). cond b (get_or plan v 0 ∷ []) (moves ps v)) (ne_eqb (whose ps v) side (λ q. w (sym (whose_at ps v d h) ∙ q)))
-    ∙ moves_at ps v d h
-
--- a list of one, cut out of a list
-pub one_of : (l : List ℕ) (i : ℕ) → i < length l → take (i + 1 - i) (drop i l) ≡ get_or l i 0 ∷ []
-one_of l i h = let e : i + 1 - i ≡ 1 = omega arith in rw (e, drop-cons l i 0) refl
+-- where a play may go from a place, by what stands there and what is claimed of it
+pub goes_at : (ps : List Place) (claims : List Claim) (side v : ℕ) (p : Place) (c : Claim) → v < length ps → p ≡ get_or ps v p → v < length claims → c ≡ get_or claims v c → goes_to ps (plan claims) side v ≡ cond (p.whose == side) (c.goes ∷ []) (vec_items p.moves)
+goes_at ps claims side v p c h e k f =
+    let w : whose ps v ≡ p.whose = whose_at ps v p h ∙ sym (ap (λ (q : Place). q.whose) e) in
+    let m : moves ps v ≡ vec_items p.moves = moves_at ps v p h ∙ sym (ap (λ (q : Place). vec_items q.moves) e) in
+    let g : get_or (plan claims) v 0 ≡ c.goes = get_or-map (λ (q : Claim). q.goes) claims v c 0 k ∙ sym (ap (λ (q : Claim). q.goes) f) in
+    rw (w, m, g) refl
 
 -- numbers that never rise
 pub never_rise : (g : ℕ → ℕ) (n : ℕ) → ((i : ℕ) → i ≤ n → g (suc i) ≤ g i) → (m i j : ℕ) → j ≡ i + m → j ≤ suc n → g j ≤ g i

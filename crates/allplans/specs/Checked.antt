@@ -1,10 +1,6 @@
 -- What an answer has that the checker finds right.
 use Rattle.std.specs.Prelude.{◌≡◌, ℕ, ◌+◌, ◌*◌, ◌/◌, ◌%◌, ◌<◌, List, length, vec_items, ◌≢◌, slice_index, slice_index_or}
 use Rattle.allplans.specs.declared.game.Place.{Place}
-use Rattle.allplans.specs.declared.checker.Verdict.{Verdict}
-use Rattle.allplans.specs.declared.checker.Verdict.TheVariants.{Right, Short, NoSide, NoMove, Leaves, WrongRound, Unclear}
-use Rattle.allplans.specs.declared.checker.Flaw.{Flaw}
-use Rattle.allplans.specs.declared.checker.Flaw.TheVariants.{None, Side, Move, Leaves as FlawLeaves}
 use Rattle.allplans.specs.Rounds.{Among, NoRound}
 
 -- each of the moves goes to a place that the side is said to win
@@ -35,18 +31,3 @@ pub record RightAnswer (ps : List Place) (winners plan : List ℕ) : Type 0 wher
   pub all_planned : length plan ≡ length ps
   pub each : (v : ℕ) (d : Place) → v < length ps → Holds (slice_index_or ps v d) (slice_index plan v) winners (slice_index winners v)
   pub rounds : (side : ℕ) → side < 2 → NoWrongRound ps winners plan side
-
-abbrev pub Says : Verdict → Type 0 → Type 0
-Says Right P = P
-Says Short P = Unit {0}
-Says (NoSide v) P = Unit {0}
-Says (NoMove v) P = Unit {0}
-Says (Leaves v) P = Unit {0}
-Says (WrongRound r) P = Unit {0}
-Says Unclear P = Unit {0}
-
-abbrev pub Finds : Flaw → Type 0 → Type 0
-Finds None P = P
-Finds Side P = Unit {0}
-Finds Move P = Unit {0}
-Finds FlawLeaves P = Unit {0}

@@ -1,4 +1,6 @@
 -- What the contracts of this crate cite.
+pub mod Sides
 pub mod Games
+pub mod Claims
 pub mod Rounds
 pub mod Checked

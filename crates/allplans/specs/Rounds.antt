@@ -2,6 +2,8 @@
 use Rattle.std.specs.Prelude.{◌≡◌, ℕ, zero, suc, ◌<◌, ◌≤◌, cond, List, [], ◌∷◌, length, vec_items, ◌==◌, slice_index, slice_index_or}
 use Rattle.allplans.specs.declared.game.Place.{Place}
 use Rattle.allplans.specs.declared.view.View.{View}
+use Rattle.allplans.specs.Claims.{winners, plan}
+use Rattle.allplans.specs.Sides.{side_word}
 
 abbrev pub whose : List Place → ℕ → ℕ
 whose [] v = 0
@@ -44,17 +46,13 @@ NoRound ps winners plan side k = (f : ℕ → ℕ) (n : ℕ) → Round ps winner
 
 -- the same of a view
 abbrev pub In : View → ℕ → Type 0
-In w v = Inside w.places.now w.winners.now w.side w.heaviest v
+In w v = Inside w.claimed.places.now (winners w.claimed.claims.now) (side_word w.side) w.heaviest v
 
 abbrev pub steps : View → ℕ → List ℕ
-steps w v = goes_to w.places.now w.plan.now w.side v
+steps w v = goes_to w.claimed.places.now (plan w.claimed.claims.now) (side_word w.side) v
 
 abbrev pub NoRoundIn : View → Type 0
-NoRoundIn w = NoRound w.places.now w.winners.now w.plan.now w.side w.heaviest
-
--- the plan speaks of each place
-abbrev pub Level : View → Type 0
-Level w = length w.plan.now ≡ length w.places.now
+NoRoundIn w = NoRound w.claimed.places.now (winners w.claimed.claims.now) (plan w.claimed.claims.now) (side_word w.side) w.heaviest
 
 -- by the move from v to u the rank does not rise, and falls if it has to
 pub record FallsBy (ranks : List ℕ) (v u : ℕ) (must : Type 0) : Type 0 where
@@ -63,7 +61,7 @@ pub record FallsBy (ranks : List ℕ) (v u : ℕ) (must : Type 0) : Type 0 where
 
 -- by no move of the view from v does the rank rise, and it falls if v has the greatest weight
 abbrev pub FallsAt : View → List ℕ → ℕ → Type 0
-FallsAt w ranks v = In w v → (u : ℕ) → Among u (steps w v) → In w u → FallsBy ranks v u (weight w.places.now v ≡ w.heaviest)
+FallsAt w ranks v = In w v → (u : ℕ) → Among u (steps w v) → In w u → FallsBy ranks v u (weight w.claimed.places.now v ≡ w.heaviest)
 
 abbrev pub Falls : View → List ℕ → Type 0
 Falls w ranks = (v : ℕ) → FallsAt w ranks v

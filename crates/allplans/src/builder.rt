@@ -1,18 +1,15 @@
 //! A game in the making.
-ghost use Rattle.std.specs.Prelude.{IfOk};
-ghost use Rattle.allplans.specs.Games.{Fine};
-
 use crate::fault::Fault;
-use crate::game::{Game, Place};
-use std::alloc::{AllocError, Global};
+use crate::fine::FineGame;
+use crate::game::Game;
+use crate::side::Side;
+use std::alloc::Global;
 
-/// A game to which places are added. That memory did not suffice is told at
-/// the end, so that the calls before need not ask.
+/// A game to which places are added, move by move.
 #[derive(Drop)]
 pub(crate) struct Builder {
     heap: Global,
-    places: Vec<Place>,
-    full: bool,
+    game: Game,
 }
 
 impl Builder {
@@ -20,47 +17,27 @@ impl Builder {
     pub(crate) fn new(heap: Global) -> Builder {
         Builder {
             heap,
-            places: Vec::new(heap),
-            full: false,
+            game: Game::new(heap),
         }
     }
 
     /// One more place, with these moves.
-    pub(crate) fn place(&mut self, whose: u32, weight: u32, moves: &[u32]) {
-        if self.add(whose, weight, moves).is_err() {
-            self.full = true;
-        }
-    }
-
-    fn add(&mut self, whose: u32, weight: u32, moves: &[u32]) -> Result<(), Fault> {
+    pub(crate) fn place(&mut self, whose: Side, weight: u32, moves: &[u32]) -> Result<(), Fault> {
         let moves = moves.to_vec(self.heap)?;
-        self.places.push(Place {
-            whose,
-            weight,
-            moves,
-        })?;
-        Ok(())
+        self.game.add(u32::from(whose), weight, moves)
     }
 
     /// One more move of the place that was added last.
-    pub(crate) fn go(&mut self, to: u32) {
-        match self.places.as_mut_slice().last_mut() {
-            Some(place) => if place.moves.push(to).is_err() {
-                self.full = true;
-            },
-            None => {}
+    pub(crate) fn go(&mut self, to: u32) -> Result<(), Fault> {
+        if let Some(place) = self.game.places.as_mut_slice().last_mut() {
+            place.moves.push(to)?;
         }
+        Ok(())
     }
 
     /// The game, where it is one.
-    pub(crate) fn finish(self) -> Result<Game, Fault>
-        ensures { IfOk result (λ g. Fine g.places.items) }
-    {
-        let Builder { places, full, .. } = self;
-        if full {
-            Err(Fault::NoMemory)
-        } else {
-            Game { places }.checked()
-        }
+    pub(crate) fn finish(self) -> Result<FineGame, Fault> {
+        let Builder { game, .. } = self;
+        game.checked()
     }
 }

@@ -1,43 +1,25 @@
 //! Whether an answer is right: a plain look at places and rounds.
-ghost use Rattle.std.specs.Prelude.{◌≡◌, ℕ, ◌+◌, ◌*◌, ◌/◌, ◌%◌, ◌<◌, true, length, IfOk, ◌≢◌, slice_index, slice_index_or};
-ghost use Rattle.allplans.specs.Checked.{AllWon, Finds, Holds, NoWrongRound, ReadFrom, RightAnswer, Says};
-ghost use Rattle.allplans.specs.Rounds.{Among, Level, NoRoundIn};
+ghost use Rattle.std.specs.Prelude.{◌≡◌, ℕ, ◌%◌, ◌<◌, true, length, OnOk, ◌≢◌, slice_index, slice_index_or};
+ghost use Rattle.allplans.specs.Checked.{AllWon, Holds, NoWrongRound, RightAnswer};
+ghost use Rattle.allplans.specs.Claims.{plan, winners};
+ghost use Rattle.allplans.specs.Rounds.{NoRoundIn};
+ghost use Rattle.allplans.specs.Sides.{side_word};
 
+pub use crate::answer::{Answer, Claim};
+use crate::claimed::Claimed;
 use crate::components::components;
 use crate::fault::Fault;
 use crate::game::{Game, Place};
-use crate::view::{Move, View, number};
+use crate::side::Side;
+use crate::view::{Move, View};
 use std::alloc::Global;
+use std::collections::VecDeque;
+use std::error::Error;
+use std::fmt;
 
-/// An answer: for each place the side that wins it, and where the winner's
-/// plan goes.
-#[derive(Drop)]
-pub struct Answer {
-    pub winners: Vec<u32>,
-    pub plan: Vec<u32>,
-}
-
-impl Answer {
-    /// The answer in these words, two for each place.
-    pub fn read(heap: Global, words: &[u32]) -> Result<Answer, Fault>
-        ensures { IfOk result (λ a. ReadFrom words.now a.winners.items a.plan.items) }
-    {
-        let mut answer = Answer {
-            winners: Vec::new(heap),
-            plan: Vec::new(heap),
-        };
-        for place in 0..words.len() / 2 {
-            answer.winners.push(words[2 * place])?;
-            answer.plan.push(words[2 * place + 1])?;
-        }
-        Ok(answer)
-    }
-}
-
-/// What the checker says of an answer.
-#[derive(Drop)]
-pub enum Verdict {
-    Right,
+/// What is wrong with an answer.
+#[derive(Debug, Drop)]
+pub enum Wrong {
     /// The answer does not speak of each place.
     Short,
     /// The winner of this place is no side.
@@ -53,176 +35,155 @@ pub enum Verdict {
     Unclear,
 }
 
+impl fmt::Display for Wrong {
+    fn fmt<W: fmt::Write>(&self, f: &mut fmt::Formatter<W>) -> fmt::Result {
+        match self {
+            Wrong::Short => write!(f, "the answer is too short"),
+            Wrong::NoSide(place) => write!(f, "no side wins place {place}"),
+            Wrong::NoMove(place) => write!(f, "the plan has no move at place {place}"),
+            Wrong::Leaves(place) => write!(f, "a play can leave from place {place}"),
+            Wrong::WrongRound(round) => write!(f, "a round of the wrong kind: {round:?}"),
+            Wrong::Unclear => write!(f, "the ranks do not fall"),
+        }
+    }
+}
+
+impl Error for Wrong {}
+
+/// Why an answer was not found right.
+#[derive(Debug, Drop)]
+pub enum Refusal {
+    Wrong(Wrong),
+    /// It could not be looked at.
+    Fault(Fault),
+}
+
+impl fmt::Display for Refusal {
+    fn fmt<W: fmt::Write>(&self, f: &mut fmt::Formatter<W>) -> fmt::Result {
+        match self {
+            Refusal::Wrong(wrong) => write!(f, "{wrong}"),
+            Refusal::Fault(fault) => write!(f, "{fault}"),
+        }
+    }
+}
+
+impl Error for Refusal {}
+
+impl From<Wrong> for Refusal {
+    fn from(wrong: Wrong) -> Refusal {
+        Refusal::Wrong(wrong)
+    }
+}
+
+impl From<Fault> for Refusal {
+    fn from(fault: Fault) -> Refusal {
+        Refusal::Fault(fault)
+    }
+}
+
 /// Looks at each place, and then for rounds of the wrong kind.
-pub fn check<'a>(heap: Global, game: &'a Game, answer: &'a Answer) -> Result<Verdict, Fault>
-    ensures { IfOk result (λ v. Says v (RightAnswer game.now.places.items answer.now.winners.items answer.now.plan.items)) }
+pub fn check(heap: Global, game: &Game, answer: &Answer) -> Result<(), Refusal>
+    ensures { OnOk result (RightAnswer game.now.places.items (winners answer.now.claims.items) (plan answer.now.claims.items)) }
 {
-    let places = game.places.as_slice();
-    let winners = answer.winners.as_slice();
-    let plan = answer.plan.as_slice();
-    if winners.len() != places.len() || plan.len() != places.len() {
-        return Ok(Verdict::Short);
-    }
-    match look_at_all(places, winners, plan) {
-        Verdict::Right => check_rounds(heap, places, winners, plan),
-        wrong => Ok(wrong),
-    }
+    let Some(claimed) = Claimed::new(game.places.as_slice(), answer.claims.as_slice()) else {
+        return Err(Refusal::Wrong(Wrong::Short));
+    };
+    look_at_all(claimed)?;
+    check_side(heap, claimed, Side::Even)?;
+    check_side(heap, claimed, Side::Odd)?;
+    Ok(())
 }
 
 /// Looks at each place.
-fn look_at_all(places: &[Place], winners: &[u32], plan: &[u32]) -> Verdict
-    ensures { Says result ((v : ℕ) (d : Place) → v < length places.now → Holds (slice_index_or places.now v d) (slice_index plan.now v) winners.now (slice_index winners.now v)) }
+fn look_at_all(claimed: Claimed) -> Result<(), Wrong>
+    ensures { OnOk result ((v : ℕ) (d : Place) → v < length claimed.entry.places.now → Holds (slice_index_or claimed.entry.places.now v d) (slice_index (plan claimed.entry.claims.now) v) (winners claimed.entry.claims.now) (slice_index (winners claimed.entry.claims.now) v)) }
 {
-    for (place, here) in places.iter().enumerate() {
-        match look_at(here, number(plan, place), winners, number(winners, place)) {
-            Flaw::None => {}
-            Flaw::Side => return Verdict::NoSide(place),
-            Flaw::Move => return Verdict::NoMove(place),
-            Flaw::Leaves => return Verdict::Leaves(place),
-        }
+    for (place, here) in claimed.places.iter().enumerate() {
+        look_at(claimed, place, here, claimed.claims[place])?;
     }
-    Verdict::Right
+    Ok(())
 }
 
-/// Looks for rounds of the wrong kind: for each side, by each weight of the
-/// other kind.
-fn check_rounds<'a>(
-    heap: Global,
-    places: &'a [Place],
-    winners: &'a [u32],
-    plan: &'a [u32],
-) -> Result<Verdict, Fault>
-    ensures { IfOk result (λ v. Says v (length plan.now ≡ length places.now → NoWrongRound places.now winners.now plan.now 0 × NoWrongRound places.now winners.now plan.now 1)) }
-{
-    match check_side(
-        heap,
-        View {
-            places,
-            winners,
-            plan,
-            side: 0,
-            heaviest: 0,
-        },
-    )? {
-        Verdict::Right => check_side(
-            heap,
-            View {
-                places,
-                winners,
-                plan,
-                side: 1,
-                heaviest: 0,
-            },
-        ),
-        wrong => Ok(wrong),
-    }
-}
-
-/// Looks for rounds of the wrong kind among the places of the view's side.
-fn check_side(heap: Global, view: View) -> Result<Verdict, Fault>
-    ensures { IfOk result (λ v. Says v (Level view.entry → NoWrongRound view.entry.places.now view.entry.winners.now view.entry.plan.now view.entry.side)) }
+/// Looks for rounds of the wrong kind among the places of a side: by each
+/// weight of the other kind.
+fn check_side(heap: Global, claimed: Claimed, side: Side) -> Result<(), Refusal>
+    ensures { OnOk result (NoWrongRound claimed.entry.places.now (winners claimed.entry.claims.now) (plan claimed.entry.claims.now) (side_word side)) }
 {
     for heaviest in 0..256 {
-        match check_weight(heap, View { heaviest, ..view })? {
-            Verdict::Right => {}
-            wrong => return Ok(wrong),
-        }
+        check_weight(
+            heap,
+            View {
+                claimed,
+                side,
+                heaviest,
+            },
+        )?;
     }
-    Ok(Verdict::Right)
+    Ok(())
 }
 
 /// Looks for a round by a place of the view's greatest weight, if that is of
 /// the wrong kind.
-fn check_weight(heap: Global, view: View) -> Result<Verdict, Fault>
-    ensures { IfOk result (λ v. Says v (Level view.entry → (view.entry.heaviest % 2 ≢ view.entry.side) → NoRoundIn view.entry)) }
+fn check_weight(heap: Global, view: View) -> Result<(), Refusal>
+    ensures { OnOk result ((view.entry.heaviest % 2 ≢ side_word view.entry.side) → NoRoundIn view.entry) }
 {
-    if view.heaviest % 2 == view.side {
-        Ok(Verdict::Right)
+    if Side::of(view.heaviest) == view.side {
+        Ok(())
     } else {
         wrong_round(heap, view)
     }
 }
 
-/// What can be wrong at a place, but for rounds.
-pub enum Flaw {
-    None,
-    Side,
-    Move,
-    Leaves,
-}
-
-/// What is wrong at a place that `side` is said to win by going to `goes`.
-fn look_at(here: &Place, goes: u32, winners: &[u32], side: u32) -> Flaw
-    ensures { Finds result (Holds here.now goes winners.now side) }
+/// Looks at a place, and at what is claimed of it.
+fn look_at(claimed: Claimed, place: usize, here: &Place, claim: Claim) -> Result<(), Wrong>
+    ensures { OnOk result (Holds here.now claim.goes (winners claimed.entry.claims.now) claim.winner) }
 {
-    if side > 1 {
-        return Flaw::Side;
-    }
-    let moves = here.moves.as_slice();
-    if here.whose != side {
-        return if all_won(moves, winners, side) {
-            Flaw::None
+    let Ok(side) = Side::try_from(claim.winner) else {
+        return Err(Wrong::NoSide(place));
+    };
+    if !here.is_of(side) {
+        return if all_won(here.moves.as_slice(), claimed, side) {
+            Ok(())
         } else {
-            Flaw::Leaves
+            Err(Wrong::Leaves(place))
         };
     }
-    if !is_among(goes, moves) {
-        return Flaw::Move;
+    if !here.moves.contains(&claim.goes) {
+        return Err(Wrong::NoMove(place));
     }
-    if number(winners, goes as usize) == side {
-        Flaw::None
+    if claimed.gives(claim.goes as usize, side) {
+        Ok(())
     } else {
-        Flaw::Leaves
+        Err(Wrong::Leaves(place))
     }
 }
 
-/// Whether one of the moves goes there.
-fn is_among(goes: u32, moves: &[u32]) -> bool
-    ensures { result ≡ true → Among goes moves.now }
+/// Whether each of the moves goes to a place that is claimed for `side`.
+fn all_won(moves: &[u32], claimed: Claimed, side: Side) -> bool
+    ensures { result ≡ true → AllWon moves.now (winners claimed.entry.claims.now) (side_word side) }
 {
-    for to in moves {
-        if *to == goes {
-            return true;
-        }
-    }
-    false
-}
-
-/// Whether each of the moves goes to a place that `side` is said to win.
-fn all_won(moves: &[u32], winners: &[u32], side: u32) -> bool
-    ensures { result ≡ true → AllWon moves.now winners.now side }
-{
-    for to in moves {
-        if number(winners, *to as usize) != side {
-            return false;
-        }
-    }
-    true
+    moves.iter().all(|to| claimed.gives(*to as usize, side))
 }
 
 /// Looks for a round of a view by a place of its greatest weight.
-fn wrong_round(heap: Global, view: View) -> Result<Verdict, Fault>
-    ensures { IfOk result (λ v. Says v (Level view.entry → NoRoundIn view.entry)) }
+fn wrong_round(heap: Global, view: View) -> Result<(), Refusal>
+    ensures { OnOk result (NoRoundIn view.entry) }
 {
     if !view.is_reached() {
-        return Ok(Verdict::Right);
+        return Ok(());
     }
     let ranks = components(heap, view)?;
     match view.first_rise(ranks.as_slice()) {
-        None => Ok(Verdict::Right),
-        Some(rise) => round(heap, view, rise),
+        None => Ok(()),
+        Some(rise) => Err(Refusal::Wrong(round(heap, view, rise)?)),
     }
 }
 
-/// The round by this move.
-fn round(heap: Global, view: View, along: Move) -> Result<Verdict, Fault>
-    ensures { IfOk result (λ v. Says v ⊥) }
-{
+/// The round by this move, where there is one.
+fn round(heap: Global, view: View, along: Move) -> Result<Wrong, Fault> {
     let before = search(heap, view, along.to)?;
-    match way_back(heap, before.as_slice(), along)? {
-        Some(round) => Ok(Verdict::WrongRound(round)),
-        None => Ok(Verdict::Unclear),
-    }
+    let round = way_back(heap, before.as_slice(), along)?;
+    Ok(round.map_or(Wrong::Unclear, Wrong::WrongRound))
 }
 
 /// The places from the end of a move to its beginning, by the place before
@@ -234,78 +195,51 @@ fn way_back(
 ) -> Result<Option<Vec<usize>>, Fault> {
     let mut round = Vec::new(heap);
     let mut place = along.from;
-    for _ in 0..before.len() {
+    // A round has no more places, and that one comes to its end is not proved.
+    for _ in before {
         round.push(place)?;
         if place == along.to {
             round.reverse();
             return Ok(Some(round));
         }
-        let Some(step) = step_back(before, place) else {
+        let Some(Some(step)) = before.get(place) else {
             break;
         };
-        place = step;
+        place = *step;
     }
     Ok(None)
-}
-
-/// The place before this one, where there is one.
-fn step_back(before: &[Option<usize>], place: usize) -> Option<usize> {
-    if place < before.len() {
-        before[place]
-    } else {
-        None
-    }
 }
 
 /// For each place that can be reached from `start`: a place before it on a
 /// shortest way.
 fn search(heap: Global, view: View, start: usize) -> Result<Vec<Option<usize>>, Fault> {
-    let places = view.places.len();
+    let places = view.claimed.places.len();
     let mut before = vec![in heap; None; places]?;
-    let mut queue = vec![in heap; start; places]?;
-    let mut tail = 1;
-    for head in 0..places {
-        if head >= tail || head >= queue.len() {
+    let mut queue = VecDeque::new(heap);
+    queue.push_back(start)?;
+    // Each place comes into the queue once, and the start once more.
+    for _ in 0..=places {
+        let Some(place) = queue.pop_front() else {
             break;
+        };
+        for to in view.moves(place) {
+            let to = *to as usize;
+            if view.has(to) && put_before(before.as_mut_slice(), to, place) {
+                queue.push_back(to)?;
+            }
         }
-        let place = queue[head];
-        tail = reach_on(
-            view,
-            place,
-            before.as_mut_slice(),
-            queue.as_mut_slice(),
-            tail,
-        );
     }
     Ok(before)
-}
-
-/// Puts the places that are new behind this one into the queue. The number of
-/// places in the queue then.
-fn reach_on(
-    view: View,
-    place: usize,
-    before: &mut [Option<usize>],
-    queue: &mut [usize],
-    filled: usize,
-) -> usize {
-    let mut tail = filled;
-    for to in view.moves(place) {
-        let to = *to as usize;
-        if view.has(to) && put_before(before, to, place) && tail < queue.len() {
-            queue[tail] = to;
-            tail += 1;
-        }
-    }
-    tail
 }
 
 /// Writes down which place comes before `to`, if none is known yet, and says
 /// whether it did.
 fn put_before(before: &mut [Option<usize>], to: usize, place: usize) -> bool {
-    if to >= before.len() || before[to].is_some() {
-        return false;
+    match before.get_mut(to) {
+        Some(known) if known.is_none() => {
+            *known = Some(place);
+            true
+        }
+        _ => false,
     }
-    before[to] = Some(place);
-    true
 }

@@ -1,73 +1,106 @@
 //! The components of a view: the largest sets of places among which one can
 //! go from each to each.
+ghost use Rattle.std.specs.Prelude.{◌≡◌};
+
 use crate::fault::Fault;
-use crate::view::{View, number, put};
+use crate::view::View;
 use std::alloc::Global;
+use std::slice::Iter;
 
 /// The number of the component of each place, from 1; 0 outside the view. A
 /// move never goes to a component of a greater number.
 pub fn components(heap: Global, view: View) -> Result<Vec<u32>, Fault> {
-    let places = view.places.len();
+    let places = view.claimed.places.len();
     let mut walk = Walk {
         view,
-        order: vec![in heap; 0; places]?,
-        low: vec![in heap; 0; places]?,
-        component: vec![in heap; 0; places]?,
-        open: Vec::new(heap),
+        marks: vec![in heap; Mark::New; places]?,
+        waiting: Vec::new(heap),
         path: Vec::new(heap),
         met: 0,
         closed: 0,
     };
     for start in 0..places {
-        if view.has(start) && number(walk.order.as_slice(), start) == 0 {
+        if view.has(start) && walk.is_new(start) {
             walk.go(start)?;
         }
     }
-    Ok(walk.component)
+    let components = walk
+        .marks
+        .iter()
+        .map(|mark| mark.component())
+        .collect(heap)?;
+    Ok(components)
 }
 
-/// Where a walk stands on its way: at a place, before one of its moves.
-#[derive(Clone, Copy)]
-struct Step {
+/// What a walk knows of a place.
+#[derive(Clone, Copy, PartialEq, Eq, Debug)]
+enum Mark {
+    /// It was not met.
+    New,
+    /// It was met, as the `order`-th, and its component is not known; an open
+    /// place that was met as the `low`-th is known to be reached from it.
+    Open { order: u32, low: u32 },
+    /// It is of this component.
+    Closed(u32),
+}
+
+impl Mark {
+    fn component(self) -> u32 {
+        match self {
+            Mark::Closed(component) => component,
+            Mark::New | Mark::Open { .. } => 0,
+        }
+    }
+}
+
+/// Where a walk stands on its way: at a place, before the moves that are left.
+#[derive(Drop)]
+struct Step<'a> {
     place: usize,
-    next: usize,
+    moves: Iter<'a, u32>,
 }
 
 /// A walk through a view, each move once (Tarjan 1972).
 #[derive(Drop)]
 struct Walk<'a> {
     view: View<'a>,
-    /// The how-many-th each place was that the walk met; 0 if not yet.
-    order: Vec<u32>,
-    /// The least order of an open place that is known to be reached.
-    low: Vec<u32>,
-    /// The component of each place; 0 if not yet known.
-    component: Vec<u32>,
+    marks: Vec<Mark>,
     /// The places that were met and have no component yet.
-    open: Vec<usize>,
+    waiting: Vec<usize>,
     /// The way from the start to where the walk stands.
-    path: Vec<Step>,
+    path: Vec<Step<'a>>,
     met: u32,
     closed: u32,
 }
 
 impl Walk<'_> {
+    fn is_new(&self, place: usize) -> bool {
+        self.marks.get(place) == Some(&Mark::New)
+    }
+
+    fn mark(&mut self, place: usize, mark: Mark)
+        ensures { self.new.waiting ≡ self.old.waiting }
+    {
+        if let Some(old) = self.marks.get_mut(place) {
+            *old = mark;
+        }
+    }
+
     /// Walks from `start` to all that can be reached and was not yet met.
     fn go(&mut self, start: usize) -> Result<(), Fault> {
         self.meet(start)?;
+        // The count only shows that the walk ends.
         for _ in 0..u64::MAX {
-            let Some(step) = self.path.pop() else {
+            let Some(mut step) = self.path.pop() else {
                 break;
             };
-            match self.view.moves(step.place).get(step.next) {
+            let place = step.place;
+            match step.moves.next() {
                 Some(to) => {
-                    self.path.push(Step {
-                        place: step.place,
-                        next: step.next.saturating_add(1),
-                    })?;
-                    self.look(step.place, *to as usize)?;
+                    self.path.push(step)?;
+                    self.look(place, *to as usize)?;
                 }
-                None => self.leave(step.place),
+                None => self.leave(place),
             }
         }
         Ok(())
@@ -76,10 +109,18 @@ impl Walk<'_> {
     /// Comes to a place for the first time.
     fn meet(&mut self, place: usize) -> Result<(), Fault> {
         self.met = self.met.saturating_add(1);
-        put(self.order.as_mut_slice(), place, self.met);
-        put(self.low.as_mut_slice(), place, self.met);
-        self.open.push(place)?;
-        self.path.push(Step { place, next: 0 })?;
+        self.mark(
+            place,
+            Mark::Open {
+                order: self.met,
+                low: self.met,
+            },
+        );
+        self.waiting.push(place)?;
+        self.path.push(Step {
+            place,
+            moves: self.view.moves(place).iter(),
+        })?;
         Ok(())
     }
 
@@ -88,32 +129,31 @@ impl Walk<'_> {
         if !self.view.has(to) {
             return Ok(());
         }
-        let order = number(self.order.as_slice(), to);
-        if order == 0 {
-            return self.meet(to);
-        }
-        if number(self.component.as_slice(), to) == 0 {
-            self.lower(from, order);
+        match self.marks.get(to).copied() {
+            Some(Mark::New) => self.meet(to)?,
+            Some(Mark::Open { order, .. }) => self.lower(from, order),
+            Some(Mark::Closed(_)) | None => {}
         }
         Ok(())
     }
 
     /// Goes back from a place all of whose moves were looked along.
     fn leave(&mut self, place: usize) {
-        let low = number(self.low.as_slice(), place);
-        if low == number(self.order.as_slice(), place) {
+        let Some(Mark::Open { order, low }) = self.marks.get(place).copied() else {
+            return;
+        };
+        if low == order {
             self.close(place);
-        }
-        if let Some(before) = self.path.as_slice().last().copied() {
-            self.lower(before.place, low);
+        } else if let Some(before) = self.path.last().map(|step| step.place) {
+            self.lower(before, low);
         }
     }
 
     /// Makes a component of the open places that were met from `place` on.
     fn close(&mut self, place: usize) {
         self.closed = self.closed.saturating_add(1);
-        while let Some(member) = self.open.pop() {
-            put(self.component.as_mut_slice(), member, self.closed);
+        while let Some(member) = self.waiting.pop() {
+            self.mark(member, Mark::Closed(self.closed));
             if member == place {
                 break;
             }
@@ -121,8 +161,9 @@ impl Walk<'_> {
     }
 
     /// Notes that an open place of this order is reached from `place`.
-    fn lower(&mut self, place: usize, order: u32) {
-        let low = number(self.low.as_slice(), place);
-        put(self.low.as_mut_slice(), place, low.min(order));
+    fn lower(&mut self, place: usize, reached: u32) {
+        if let Some(Mark::Open { low, .. }) = self.marks.get_mut(place) {
+            *low = reached.min(*low);
+        }
     }
 }

@@ -3,60 +3,52 @@
 //!
 //! Each is given only if it is a game. The sizes are small numbers, so that
 //! the numbers of places do not come near their bound.
-ghost use Rattle.std.specs.Prelude.{IfOk};
-ghost use Rattle.allplans.specs.Games.{Fine};
-
 use crate::builder::Builder;
 use crate::fault::Fault;
+use crate::fine::FineGame;
 use crate::game::Game;
 use crate::random::Random;
+use crate::side::Side;
 use std::alloc::Global;
 
 /// The game of three places. Side 0 wins the first two, by going from the
 /// first to the second; side 1 wins the third, by staying there.
-pub fn three(heap: Global) -> Result<Game, Fault>
-    ensures { IfOk result (λ g. Fine g.places.items) }
-{
+pub fn three(heap: Global) -> Result<FineGame, Fault> {
     let mut game = Builder::new(heap);
-    game.place(0, 1, &[1, 2]);
-    game.place(1, 2, &[0]);
-    game.place(1, 3, &[0, 2]);
+    game.place(Side::Even, 1, &[1, 2])?;
+    game.place(Side::Odd, 2, &[0])?;
+    game.place(Side::Odd, 3, &[0, 2])?;
     game.finish()
 }
 
 /// One place with a move to itself.
-pub fn one(heap: Global, whose: u32, weight: u32) -> Result<Game, Fault>
-    ensures { IfOk result (λ g. Fine g.places.items) }
-{
+// `whose` stays a word: callers may ask for any, and what is no side is refused.
+pub fn one(heap: Global, whose: u32, weight: u32) -> Result<FineGame, Fault> {
     let mut game = Builder::new(heap);
-    game.place(whose, weight, &[0]);
+    game.place(Side::try_from(whose)?, weight, &[0])?;
     game.finish()
 }
 
 /// A ring whose places belong to the sides in turn and all have the same
 /// weight; each has a move to itself too.
-pub fn all_same(heap: Global, places: u8, weight: u32) -> Result<Game, Fault>
-    ensures { IfOk result (λ g. Fine g.places.items) }
-{
+pub fn all_same(heap: Global, places: u8, weight: u32) -> Result<FineGame, Fault> {
     let places = u32::from(places);
     let mut game = Builder::new(heap);
     for place in 0..places {
-        game.place(place % 2, weight, &[following(place, places), place]);
+        game.place(Side::of(place), weight, &[following(place, places), place])?;
     }
     game.finish()
 }
 
 /// Rungs that belong to the sides in turn, each as heavy as it is high: from
 /// each one goes up by one or back to the beginning, from the last only back.
-pub fn ladder(heap: Global, last: u8) -> Result<Game, Fault>
-    ensures { IfOk result (λ g. Fine g.places.items) }
-{
+pub fn ladder(heap: Global, last: u8) -> Result<FineGame, Fault> {
     let last = u32::from(last);
     let mut game = Builder::new(heap);
     for rung in 0..last {
-        game.place(rung % 2, rung, &[rung.wrapping_add(1), 0]);
+        game.place(Side::of(rung), rung, &[rung + 1, 0])?;
     }
-    game.place(last % 2, last, &[0]);
+    game.place(Side::of(last), last, &[0])?;
     game.finish()
 }
 
@@ -69,25 +61,29 @@ pub fn at_random(
     least: u32,
     most: u32,
     weights: u32,
-) -> Result<Game, Fault>
-    ensures { IfOk result (λ g. Fine g.places.items) }
-{
+) -> Result<FineGame, Fault> {
     let mut game = Builder::new(heap);
     for _ in 0..places {
-        let whose = random.below(2);
+        let whose = Side::of(random.below(2));
         let weight = random.below(weights);
         let more = random.below(most.saturating_sub(least).saturating_add(1));
-        game.place(whose, weight, &[]);
-        go_anywhere(&mut game, random, least.saturating_add(more), places);
+        game.place(whose, weight, &[])?;
+        go_anywhere(&mut game, random, least.saturating_add(more), places)?;
     }
     game.finish()
 }
 
 /// So many more moves, to any of the places.
-fn go_anywhere(game: &mut Builder, random: &mut Random, count: u32, places: u32) {
+fn go_anywhere(
+    game: &mut Builder,
+    random: &mut Random,
+    count: u32,
+    places: u32,
+) -> Result<(), Fault> {
     for _ in 0..count {
-        game.go(random.below(places));
+        game.go(random.below(places))?;
     }
+    Ok(())
 }
 
 /// Clusters of places with three moves each: all stay in the cluster, but for
@@ -98,37 +94,22 @@ pub fn clusters(
     clusters: u8,
     size: u8,
     weights: u32,
-) -> Result<Game, Fault>
-    ensures { IfOk result (λ g. Fine g.places.items) }
-{
+) -> Result<FineGame, Fault> {
     let clusters = u32::from(clusters);
     let size = u32::from(size);
     let mut game = Builder::new(heap);
     for cluster in 0..clusters {
         let next = following(cluster, clusters);
         for _ in 0..size {
-            add_member(&mut game, random, cluster, next, size, weights);
+            let whose = Side::of(random.below(2));
+            game.place(whose, random.below(weights), &[])?;
+            let third = if random.below(16) == 0 { next } else { cluster };
+            for to in [cluster, cluster, third] {
+                game.go(cell(to, size, random.below(size)))?;
+            }
         }
     }
     game.finish()
-}
-
-/// A place of a cluster of this size.
-fn add_member(
-    game: &mut Builder,
-    random: &mut Random,
-    cluster: u32,
-    next: u32,
-    size: u32,
-    weights: u32,
-) {
-    let whose = random.below(2);
-    let weight = random.below(weights);
-    let third = if random.below(16) == 0 { next } else { cluster };
-    game.place(whose, weight, &[]);
-    for to in [cluster, cluster, third] {
-        game.go(cell(to, size, random.below(size)));
-    }
 }
 
 /// After the games of Jurdzinski (Small progress measures for solving parity
@@ -141,40 +122,40 @@ fn add_member(
 /// the last column side 0 may also go by a heavy even place, and wins there.
 /// As in the original the rows are the odd weights, and each has as many
 /// places as a digit of the measure counts; the moves are not the original's.
-pub fn measures(heap: Global, columns: u8, rows: u8) -> Result<Game, Fault>
-    ensures { IfOk result (λ g. Fine g.places.items) }
-{
+pub fn measures(heap: Global, columns: u8, rows: u8) -> Result<FineGame, Fault> {
     let columns = u32::from(columns);
     let rows = u32::from(rows);
     let width = rows.wrapping_add(1);
     let last = columns.saturating_sub(1);
     let mut game = Builder::new(heap);
     for column in 0..columns {
-        add_foot(&mut game, cell(column, width, 1), rows);
+        add_foot(&mut game, cell(column, width, 1), rows)?;
         if column == last {
-            game.go(cell(columns, width, 0));
+            game.go(cell(columns, width, 0))?;
         }
         let foot = cell(column, width, 0);
         let next = cell(following(column, columns), width, 0);
-        add_rows(&mut game, rows, foot, next);
+        add_rows(&mut game, rows, foot, next)?;
     }
-    game.place(1, cell(rows, 2, 0), &[cell(last, width, 0)]);
+    game.place(Side::Odd, cell(rows, 2, 0), &[cell(last, width, 0)])?;
     game.finish()
 }
 
 /// Where side 0 chooses among so many places from `first` on.
-fn add_foot(game: &mut Builder, first: u32, rows: u32) {
-    game.place(0, 0, &[]);
+fn add_foot(game: &mut Builder, first: u32, rows: u32) -> Result<(), Fault> {
+    game.place(Side::Even, 0, &[])?;
     for row in 0..rows {
-        game.go(first.wrapping_add(row));
+        game.go(first.wrapping_add(row))?;
     }
+    Ok(())
 }
 
 /// The places of the odd weights.
-fn add_rows(game: &mut Builder, rows: u32, foot: u32, next: u32) {
+fn add_rows(game: &mut Builder, rows: u32, foot: u32, next: u32) -> Result<(), Fault> {
     for row in 0..rows {
-        game.place(1, cell(row, 2, 1), &[foot, next]);
+        game.place(Side::Odd, cell(row, 2, 1), &[foot, next])?;
     }
+    Ok(())
 }
 
 /// After the lower bounds for succinct measures (Jurdzinski and Lazic,
@@ -187,27 +168,25 @@ fn add_rows(game: &mut Builder, rows: u32, foot: u32, next: u32) {
 /// its part of the tree begins, by a heavier even place; the last step leads
 /// home by the heaviest. One more place at the gate, where side 1 may stay, is
 /// all that side 1 wins. No bound is claimed for this game.
-pub fn tree(heap: Global, steps: u8) -> Result<Game, Fault>
-    ensures { IfOk result (λ g. Fine g.places.items) }
-{
+pub fn tree(heap: Global, steps: u8) -> Result<FineGame, Fault> {
     let steps = u32::from(steps);
     let mut game = Builder::new(heap);
-    for step in 0..steps {
-        add_step(&mut game, step.wrapping_add(1));
+    for number in 1..=steps {
+        add_step(&mut game, number)?;
     }
     let home = cell(steps, 2, 0);
-    game.place(0, 20, &[0]);
-    game.place(1, 1, &[home.wrapping_add(1), home]);
+    game.place(Side::Even, 20, &[0])?;
+    game.place(Side::Odd, 1, &[home.wrapping_add(1), home])?;
     game.finish()
 }
 
 /// The step to a number, and the place beside it.
-fn add_step(game: &mut Builder, number: u32) {
+fn add_step(game: &mut Builder, number: u32) -> Result<(), Fault> {
     let height = number.trailing_zeros();
     let begin = number.saturating_sub(lowest_bit(number));
     let next = cell(number, 2, 0);
-    game.place(1, cell(height, 2, 1), &[next, next.wrapping_sub(1)]);
-    game.place(0, cell(height, 2, 2), &[cell(begin, 2, 0), next]);
+    game.place(Side::Odd, cell(height, 2, 1), &[next, next.wrapping_sub(1)])?;
+    game.place(Side::Even, cell(height, 2, 2), &[cell(begin, 2, 0), next])
 }
 
 /// The greatest power of 2 that divides `n`.
@@ -223,53 +202,49 @@ fn lowest_bit(n: u32) -> u32 {
 /// side, whose weights are 0 and 1 in turn, and c, d and e, whose weights
 /// grow by three a level. The moves of c and e, and the sides of a and b, were
 /// found by trying; they may differ from the original's.
-pub fn recursive_ladder(heap: Global, levels: u8) -> Result<Game, Fault>
-    ensures { IfOk result (λ g. Fine g.places.items) }
-{
+pub fn recursive_ladder(heap: Global, levels: u8) -> Result<FineGame, Fault> {
     let ladder = Rungs {
         levels: u32::from(levels),
     };
     let mut game = Builder::new(heap);
     for level in 0..ladder.levels {
-        add_side_rungs(&mut game, ladder, level);
+        add_side_rungs(&mut game, ladder, level)?;
     }
     for level in 0..ladder.levels {
-        add_rungs(&mut game, ladder, level);
+        add_rungs(&mut game, ladder, level)?;
     }
     game.finish()
 }
 
 /// The places a and b of a level.
-fn add_side_rungs(game: &mut Builder, ladder: Rungs, level: u32) {
-    let (whose, other) = in_turn(level);
-    game.place(other, whose, &[ladder.b(level)]);
-    game.place(whose, other, &[ladder.a(level)]);
-    let above = level.wrapping_add(1);
+fn add_side_rungs(game: &mut Builder, ladder: Rungs, level: u32) -> Result<(), Fault> {
+    let whose = Side::of(level);
+    let other = whose.other();
+    game.place(other, u32::from(whose), &[ladder.b(level)])?;
+    game.place(whose, u32::from(other), &[ladder.a(level)])?;
+    let above = level.saturating_add(1);
     if above < ladder.levels {
-        game.go(ladder.c(above));
-        game.go(ladder.b(above));
+        game.go(ladder.c(above))?;
+        game.go(ladder.b(above))?;
     }
+    Ok(())
 }
 
 /// The places c, d and e of a level.
-fn add_rungs(game: &mut Builder, ladder: Rungs, level: u32) {
-    let (whose, other) = in_turn(level);
+fn add_rungs(game: &mut Builder, ladder: Rungs, level: u32) -> Result<(), Fault> {
+    let whose = Side::of(level);
+    let other = whose.other();
     let down = [ladder.b(level), ladder.d(level)];
-    game.place(other, cell(level, 3, 5), &down);
-    game.place(whose, cell(level, 3, 4), &[ladder.e(level)]);
+    game.place(other, cell(level, 3, 5), &down)?;
+    game.place(whose, cell(level, 3, 4), &[ladder.e(level)])?;
     if level > 0 {
-        game.go(ladder.d(level.wrapping_sub(1)));
+        game.go(ladder.d(level - 1))?;
     }
-    let above = level.wrapping_add(1);
+    let above = level.saturating_add(1);
     if above < ladder.levels {
-        game.go(ladder.d(above));
+        game.go(ladder.d(above))?;
     }
-    game.place(other, cell(level, 3, 3), &down);
-}
-
-/// The side whose turn it is at a level, and the other.
-fn in_turn(level: u32) -> (u32, u32) {
-    if level % 2 == 0 { (0, 1) } else { (1, 0) }
+    game.place(other, cell(level, 3, 3), &down)
 }
 
 /// The numbers of the places of a recursive ladder, level by level from 0:
@@ -311,91 +286,95 @@ impl Rungs {
 /// Weights of the same kind that follow one another were made one, so that
 /// they stay below 256: this keeps the winners, but not the steps that the
 /// original is made for. `lead` more places lead to the entries.
-pub fn binary_counter(heap: Global, bits: u8, lead: u8) -> Result<Game, Fault>
-    ensures { IfOk result (λ g. Fine g.places.items) }
-{
+pub fn binary_counter(heap: Global, bits: u8, lead: u8) -> Result<FineGame, Fault> {
     let counter = Counter {
         bits: u32::from(bits),
     };
     let mut game = Builder::new(heap);
-    add_entries(&mut game, counter);
-    add_lanes(&mut game, counter);
+    add_entries(&mut game, counter)?;
+    add_lanes(&mut game, counter)?;
     for bit in 0..counter.bits {
-        add_round(&mut game, counter, bit);
-        add_choices(&mut game, counter, bit);
+        add_round(&mut game, counter, bit)?;
+        add_choices(&mut game, counter, bit)?;
     }
-    add_lead(&mut game, counter, u32::from(lead));
+    add_lead(&mut game, counter, u32::from(lead))?;
     game.finish()
 }
 
 /// The sink, the crossing and the entries.
-fn add_entries(game: &mut Builder, counter: Counter) {
+fn add_entries(game: &mut Builder, counter: Counter) -> Result<(), Fault> {
     let weight = cell(counter.bits, 6, 2);
-    game.place(0, 1, &[counter.x()]);
-    game.place(0, weight, &[counter.s(), counter.r()]);
-    game.place(0, weight, &[counter.x()]);
+    game.place(Side::Even, 1, &[counter.x()])?;
+    game.place(Side::Even, weight, &[counter.s(), counter.r()])?;
+    game.place(Side::Even, weight, &[counter.x()])?;
     for bit in 0..counter.bits {
-        game.go(counter.f(bit));
+        game.go(counter.f(bit))?;
     }
-    game.place(0, weight, &[counter.x()]);
+    game.place(Side::Even, weight, &[counter.x()])?;
     for bit in 0..counter.bits {
-        game.go(counter.g(bit));
+        game.go(counter.g(bit))?;
     }
+    Ok(())
 }
 
 /// The lanes: t, one to the next, and from each a to its t.
-fn add_lanes(game: &mut Builder, counter: Counter) {
+fn add_lanes(game: &mut Builder, counter: Counter) -> Result<(), Fault> {
     let lane = cell(counter.bits, 2, 0);
     for i in 0..lane {
-        let next = if i == 0 {
-            counter.c()
-        } else {
-            counter.t(i.wrapping_sub(1))
+        let next = match i.checked_sub(1) {
+            Some(before) => counter.t(before),
+            None => counter.c(),
         };
         game.place(
-            0,
+            Side::Even,
             cell(i, 2, lane.wrapping_add(3)),
             &[counter.s(), counter.r(), next],
-        );
+        )?;
     }
     for i in 0..lane {
-        game.place(0, cell(i, 2, lane.wrapping_add(4)), &[counter.t(i)]);
+        game.place(
+            Side::Even,
+            cell(i, 2, lane.wrapping_add(4)),
+            &[counter.t(i)],
+        )?;
     }
+    Ok(())
 }
 
 /// The places d, e and g of a bit.
-fn add_round(game: &mut Builder, counter: Counter, bit: u32) {
+fn add_round(game: &mut Builder, counter: Counter, bit: u32) -> Result<(), Fault> {
     let low = cell(bit, 2, 3);
     let above = low.wrapping_add(1);
-    game.place(0, low, &[counter.s(), counter.e(bit), counter.r()]);
+    game.place(Side::Even, low, &[counter.s(), counter.e(bit), counter.r()])?;
     for i in 0..cell(bit, 2, 2) {
-        game.go(counter.a(i));
+        game.go(counter.a(i))?;
     }
-    game.place(1, above, &[counter.d(bit), counter.h(bit)]);
-    game.place(0, above, &[counter.f(bit), counter.k(bit)]);
+    game.place(Side::Odd, above, &[counter.d(bit), counter.h(bit)])?;
+    game.place(Side::Even, above, &[counter.f(bit), counter.k(bit)])
 }
 
 /// The places k, f and h of a bit.
-fn add_choices(game: &mut Builder, counter: Counter, bit: u32) {
+fn add_choices(game: &mut Builder, counter: Counter, bit: u32) -> Result<(), Fault> {
     let high = cell(counter.bits, 6, cell(bit, 2, 3));
-    game.place(0, high, &[counter.x()]);
-    for higher in bit.wrapping_add(1)..counter.bits {
-        game.go(counter.g(higher));
+    game.place(Side::Even, high, &[counter.x()])?;
+    for higher in bit.saturating_add(1)..counter.bits {
+        game.go(counter.g(higher))?;
     }
-    game.place(0, high, &[counter.e(bit)]);
-    game.place(0, high.wrapping_add(1), &[counter.k(bit)]);
+    game.place(Side::Even, high, &[counter.e(bit)])?;
+    game.place(Side::Even, high.wrapping_add(1), &[counter.k(bit)])
 }
 
 /// The places that lead to the entries.
-fn add_lead(game: &mut Builder, counter: Counter, lead: u32) {
+fn add_lead(game: &mut Builder, counter: Counter, lead: u32) -> Result<(), Fault> {
     for place in 0..lead {
-        let next = if place.wrapping_add(1) < lead {
+        let next = if place + 1 < lead {
             counter.end().wrapping_add(place).wrapping_add(1)
         } else {
             counter.s()
         };
-        game.place(1, place % 2, &[next, counter.r()]);
+        game.place(Side::Odd, place % 2, &[next, counter.r()])?;
     }
+    Ok(())
 }
 
 /// The numbers of the places of a counter, bits and lanes from 0.
@@ -461,22 +440,21 @@ impl Counter {
 
 /// The same game with the sides changed: each place is the other side's, and
 /// each weight is greater by one.
-pub fn mirrored(heap: Global, game: &Game) -> Result<Game, Fault>
-    ensures { IfOk result (λ g. Fine g.places.items) }
-{
+pub fn mirrored(heap: Global, game: &Game) -> Result<FineGame, Fault> {
     let mut mirror = Builder::new(heap);
     for place in game.places.iter() {
-        let whose = if place.whose == 0 { 1 } else { 0 };
+        let whose = Side::try_from(place.whose).map_or(Side::Even, Side::other);
         mirror.place(
             whose,
             place.weight.saturating_add(1),
             place.moves.as_slice(),
-        );
+        )?;
     }
     mirror.finish()
 }
 
 /// The number of a cell in rows of this width, from 0.
+// It wraps, since no bound is in hand here: a number that is no place makes no game.
 fn cell(row: u32, width: u32, column: u32) -> u32 {
     row.wrapping_mul(width).wrapping_add(column)
 }

@@ -1,65 +1,64 @@
 //! A game as a list of places, and its words.
-ghost use Rattle.std.specs.Prelude.{◌≡◌, ◌<◌, T, ◌++◌, IfOk, vec_len, OnOk};
-ghost use Rattle.allplans.specs.Games.{Below, Fine, FinePlace, place_words, game_words};
+ghost use Rattle.std.specs.Prelude.{◌≡◌, ◌==◌, ◌++◌, IsTrue, ◌↔◌, IfOk, vec_items, vec_len, OnOk, if◌then◌else◌};
+ghost use Rattle.allplans.specs.Games.{Fine, FinePlace, place_words, game_words};
+ghost use Rattle.allplans.specs.Sides.{side_word};
 
 use crate::builder::Builder;
 use crate::fault::Fault;
+use crate::fine::FineGame;
+use crate::side::Side;
 use std::alloc::Global;
 
 /// The most places that a game may have.
 pub const MOST_PLACES: usize = 16384;
 
-/// A place: whose move it is, 0 or 1; its weight; where one may move.
+/// A place: whose move it is; its weight; where one may move.
 #[derive(Drop)]
 pub struct Place {
+    // It stays a word: a game that is being made may hold any, and is refused later.
     pub whose: u32,
     pub weight: u32,
     pub moves: Vec<u32>,
 }
 
 impl Place {
+    /// Whether it is this side's move here.
+    pub fn is_of(&self, side: Side) -> bool
+        ensures { IsTrue result ↔ (self.now.whose ≡ side_word side) }
+    {
+        self.whose == u32::from(side)
+    }
+
+    /// Where one may move if `side` goes as planned, and the other as it likes.
+    pub(crate) fn steps<'a>(&'a self, side: Side, planned: &'a [u32]) -> &'a [u32]
+        ensures { result.now ≡ (if self.now.whose == side_word side then planned.now else vec_items self.now.moves) }
+    {
+        if self.is_of(side) {
+            planned
+        } else {
+            self.moves.as_slice()
+        }
+    }
+
     /// Whether this may be a place of a game with so many places.
     pub fn is_fine(&self, places: usize) -> bool
-        ensures { T result → FinePlace places self.now }
+        ensures { IsTrue result → FinePlace places self.now }
     {
-        self.whose < 2
+        Side::try_from(self.whose).is_ok()
             && self.weight < 256
             && !self.moves.is_empty()
-            && all_below(self.moves.as_slice(), places)
+            && self.moves.iter().all(|to| (*to as usize) < places)
     }
 
     /// Writes the words of this place behind `words`.
     fn write(&self, words: &mut Vec<u32>) -> Result<(), Fault>
         ensures { OnOk result (words.new.items ≡ words.old.items ++ place_words self.now) }
     {
-        let moves = word(self.moves.len())?;
+        let moves = u32::try_from(self.moves.len())?;
         words.extend_from_slice(&[self.whose, self.weight, moves])?;
         words.extend_from_slice(self.moves.as_slice())?;
         Ok(())
     }
-}
-
-/// A number as a word.
-fn word(n: usize) -> Result<u32, Fault>
-    ensures { IfOk result (λ w. w ≡ n) }
-{
-    if n > u32::MAX as usize {
-        Err(Fault::NoGame)
-    } else {
-        Ok(n as u32)
-    }
-}
-
-/// Whether each move is to one of so many places.
-fn all_below(moves: &[u32], places: usize) -> bool
-    ensures { T result → Below places moves.now }
-{
-    for to in moves {
-        if *to as usize >= places {
-            return false;
-        }
-    }
-    true
 }
 
 /// A game, or one that is being made.
@@ -94,37 +93,29 @@ impl Game {
     }
 
     /// This game, where it is one: each place is fine.
-    pub fn checked(self) -> Result<Game, Fault>
-        ensures { IfOk result (λ g. Fine g.places.items) }
+    pub fn checked(self) -> Result<FineGame, Fault>
+        ensures { IfOk result (λ g. g.game ≡ self) }
     {
         if self.is_fine() {
-            Ok(self)
+            Ok(FineGame { game: self })
         } else {
             Err(Fault::NoGame)
         }
     }
 
     fn is_fine(&self) -> bool
-        ensures { T result → Fine self.now.places.items }
+        ensures { IsTrue result → Fine self.now.places.items }
     {
         let places = self.places.len();
-        if places == 0 || places > MOST_PLACES {
-            return false;
-        }
-        for place in self.places.iter() {
-            if !place.is_fine(places) {
-                return false;
-            }
-        }
-        true
+        (1..=MOST_PLACES).contains(&places) && self.places.iter().all(|place| place.is_fine(places))
     }
 
     /// The game that these words are, if they are one.
-    pub fn read(heap: Global, words: &[u32]) -> Result<Game, Fault>
-        ensures { IfOk result (λ g. Fine g.places.items × (game_words g.places.items ≡ words.now)) }
+    pub fn read(heap: Global, words: &[u32]) -> Result<FineGame, Fault>
+        ensures { IfOk result (λ g. game_words g.game.places.items ≡ words.now) }
     {
         let game = read_places(heap, words)?;
-        let again = game.words(heap)?;
+        let again = game.game.words(heap)?;
         if again.as_slice() == words {
             Ok(game)
         } else {
@@ -137,7 +128,7 @@ impl Game {
         ensures { IfOk result (λ ws. ws.items ≡ game_words self.now.places.items) }
     {
         let mut words = Vec::new(heap);
-        words.push(word(self.places.len())?)?;
+        words.push(u32::try_from(self.places.len())?)?;
         for place in self.places.iter() {
             place.write(&mut words)?;
         }
@@ -147,25 +138,23 @@ impl Game {
 
 /// The game whose places stand in these words. Words that are left over are
 /// not seen here.
-fn read_places(heap: Global, words: &[u32]) -> Result<Game, Fault>
-    ensures { IfOk result (λ g. Fine g.places.items) }
-{
+fn read_places(heap: Global, words: &[u32]) -> Result<FineGame, Fault> {
     let mut game = Builder::new(heap);
-    let [count, places @ ..] = words else {
-        return Err(Fault::NoGame);
-    };
-    let mut rest = places;
+    let (count, mut rest) = words.split_first().ok_or(Fault::NoGame)?;
     for _ in 0..*count {
-        let [whose, weight, moves, behind @ ..] = rest else {
-            return Err(Fault::NoGame);
-        };
-        let moves = *moves as usize;
-        if behind.len() < moves {
-            return Err(Fault::NoGame);
-        }
-        let (moves, next) = behind.split_at(moves);
-        game.place(*whose, *weight, moves);
-        rest = next;
+        rest = read_place(&mut game, rest)?;
     }
     game.finish()
+}
+
+/// Adds the place that stands at the front of these words. What is behind it.
+fn read_place<'a>(game: &mut Builder, words: &'a [u32]) -> Result<&'a [u32], Fault> {
+    let [whose, weight, moves, behind @ ..] = words else {
+        return Err(Fault::NoGame);
+    };
+    let (moves, rest) = behind
+        .split_at_checked(*moves as usize)
+        .ok_or(Fault::NoGame)?;
+    game.place(Side::try_from(*whose)?, *weight, moves)?;
+    Ok(rest)
 }

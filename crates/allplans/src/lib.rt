@@ -6,13 +6,18 @@
 //! the places of each side. Games to try are made here too.
 #![tactic(auto)]
 
+pub mod answer;
 mod builder;
 pub mod checker;
+mod claimed;
 mod components;
 pub mod families;
 pub mod fault;
+pub mod fine;
 pub mod game;
 pub mod plans;
 pub mod random;
 pub mod reach;
+mod set;
+pub mod side;
 mod view;

@@ -1,7 +1,10 @@
 //! The winners of a small game, by trying all plans of both sides.
 use crate::fault::Fault;
 use crate::game::Game;
+use crate::set::PlaceSet;
+use crate::side::Side;
 use std::alloc::Global;
+use std::slice;
 
 /// The most plans of a side that are tried: all, where a game has eight
 /// places with three moves each.
@@ -11,7 +14,7 @@ const MOST_PLANS: u32 = 6561;
 #[derive(Clone, Copy, PartialEq, Eq, Debug)]
 pub enum Winner {
     /// This side has a plan that wins here, and the other has none.
-    Side(u32),
+    Side(Side),
     /// Each side has a plan that wins here: this never comes.
     Both,
     /// No side has a plan that wins here: this never comes.
@@ -20,25 +23,25 @@ pub enum Winner {
 
 /// The winner of each place of a game.
 pub fn winners(heap: Global, game: &Game) -> Result<Vec<Winner>, Fault> {
-    let even = won_by(heap, game, 0)?;
-    let odd = won_by(heap, game, 1)?;
-    let mut winners = Vec::new(heap);
-    for (even, odd) in even.iter().zip(odd.iter()) {
-        winners.push(match (*even, *odd) {
-            (true, false) => Winner::Side(0),
-            (false, true) => Winner::Side(1),
+    let even = won_by(heap, game, Side::Even)?;
+    let odd = won_by(heap, game, Side::Odd)?;
+    let winners = even
+        .iter()
+        .zip(odd.iter())
+        .map(|(even, odd)| match (*even, *odd) {
+            (true, false) => Winner::Side(Side::Even),
+            (false, true) => Winner::Side(Side::Odd),
             (true, true) => Winner::Both,
             (false, false) => Winner::Neither,
-        })?;
-    }
+        })
+        .collect(heap)?;
     Ok(winners)
 }
 
-/// The places from which `side` wins by some plan.
-fn won_by(heap: Global, game: &Game, side: u32) -> Result<Vec<bool>, Fault> {
-    let places = game.len();
-    let mut won = vec![in heap; false; places]?;
-    let mut choice = vec![in heap; 0usize; places]?;
+/// For each place whether `side` wins from it by some plan.
+fn won_by(heap: Global, game: &Game, side: Side) -> Result<Vec<bool>, Fault> {
+    let mut won = vec![in heap; false; game.len()]?;
+    let mut choice = vec![in heap; 0usize; game.len()]?;
     for _ in 0..MOST_PLANS {
         let plan = Plan {
             game,
@@ -46,10 +49,8 @@ fn won_by(heap: Global, game: &Game, side: u32) -> Result<Vec<bool>, Fault> {
             choice: choice.as_slice(),
         };
         let lost = plan.lost(heap)?;
-        for (won, lost) in won.iter_mut().zip(lost.iter()) {
-            if !*lost {
-                *won = true;
-            }
+        for (place, won) in won.iter_mut().enumerate() {
+            *won = *won || !lost.has(place);
         }
         if !next_plan(game, side, choice.as_mut_slice()) {
             return Ok(won);
@@ -60,9 +61,9 @@ fn won_by(heap: Global, game: &Game, side: u32) -> Result<Vec<bool>, Fault> {
 
 /// Counts on to the next plan of `side`: `choice` has, for each of its
 /// places, which of the moves is taken. `false` after the last plan.
-fn next_plan(game: &Game, side: u32, choice: &mut [usize]) -> bool {
+fn next_plan(game: &Game, side: Side, choice: &mut [usize]) -> bool {
     for (place, chosen) in game.places.iter().zip(choice.iter_mut()) {
-        if place.whose == side {
+        if place.is_of(side) {
             let last = place.moves.len().saturating_sub(1);
             if *chosen < last {
                 *chosen += 1;
@@ -78,7 +79,7 @@ fn next_plan(game: &Game, side: u32, choice: &mut [usize]) -> bool {
 #[derive(Clone, Copy)]
 struct Plan<'a> {
     game: &'a Game,
-    side: u32,
+    side: Side,
     choice: &'a [usize],
 }
 
@@ -88,93 +89,56 @@ impl<'a> Plan<'a> {
         let Some(here) = self.game.places.get(place) else {
             return &[];
         };
-        let moves = here.moves.as_slice();
-        if here.whose != self.side {
-            return moves;
-        }
-        match self.choice.get(place) {
-            Some(chosen) if *chosen < moves.len() => &moves[*chosen..*chosen + 1],
-            _ => &[],
-        }
+        let chosen = self
+            .choice
+            .get(place)
+            .and_then(|chosen| here.moves.get(*chosen));
+        here.steps(self.side, chosen.map_or(&[], |to| slice::from_ref(to)))
     }
 
     /// The places from which a play by this plan can come to a round that the
     /// other side wins.
-    fn lost(self, heap: Global) -> Result<Vec<bool>, Fault> {
-        let mut lost = Vec::new(heap);
-        let mut wrong = Vec::new(heap);
+    fn lost(self, heap: Global) -> Result<PlaceSet, Fault> {
+        let mut wrong = PlaceSet::new(heap, self.game.len())?;
         for (place, here) in self.game.places.iter().enumerate() {
-            let comes_back = here.weight % 2 != self.side
-                && at(self.reached(heap, place, here.weight)?.as_slice(), place);
-            wrong.push(comes_back)?;
+            if Side::of(here.weight) != self.side
+                && self.reached(heap, place, here.weight)?.has(place)
+            {
+                wrong.add(place);
+            }
         }
+        let mut lost = PlaceSet::new(heap, self.game.len())?;
         for place in 0..self.game.len() {
-            let reached = self.reached(heap, place, u32::MAX)?;
-            lost.push(at(wrong.as_slice(), place) || meet(wrong.as_slice(), reached.as_slice()))?;
+            if wrong.has(place) || self.reached(heap, place, u32::MAX)?.meets(&wrong) {
+                lost.add(place);
+            }
         }
         Ok(lost)
     }
 
     /// The places to which a play by this plan can come from `start`, by one
     /// move or more, over places of weight at most `heaviest`.
-    fn reached(self, heap: Global, start: usize, heaviest: u32) -> Result<Vec<bool>, Fault> {
-        let places = self.game.len();
-        let mut reached = vec![in heap; false; places]?;
-        self.go_on(start, heaviest, reached.as_mut_slice());
-        for _ in 0..places {
-            let mut more = false;
-            for place in 0..places {
-                if at(reached.as_slice(), place)
-                    && self.go_on(place, heaviest, reached.as_mut_slice())
-                {
-                    more = true;
-                }
-            }
-            if !more {
+    fn reached(self, heap: Global, start: usize, heaviest: u32) -> Result<PlaceSet, Fault> {
+        let mut reached = PlaceSet::new(heap, self.game.len())?;
+        let mut open = vec![in heap; start]?;
+        for _ in 0..=self.game.len() {
+            let Some(place) = open.pop() else {
                 break;
+            };
+            for to in self.moves(place) {
+                let to = *to as usize;
+                if self.weighs_at_most(to, heaviest) && reached.add(to) {
+                    open.push(to)?;
+                }
             }
         }
         Ok(reached)
     }
 
-    /// Marks where a play can go from `place` by one move, over places of
-    /// weight at most `heaviest`, and says whether one was new.
-    fn go_on(self, place: usize, heaviest: u32, reached: &mut [bool]) -> bool {
-        let mut more = false;
-        for to in self.moves(place) {
-            let to = *to as usize;
-            if !at(reached, to) && self.weighs_at_most(to, heaviest) {
-                mark(reached, to);
-                more = true;
-            }
-        }
-        more
-    }
-
     fn weighs_at_most(self, place: usize, heaviest: u32) -> bool {
-        match self.game.places.get(place) {
-            Some(place) => place.weight <= heaviest,
-            None => false,
-        }
-    }
-}
-
-/// Whether a place is in both sets.
-fn meet(a: &[bool], b: &[bool]) -> bool {
-    for (a, b) in a.iter().zip(b.iter()) {
-        if *a && *b {
-            return true;
-        }
-    }
-    false
-}
-
-fn at(set: &[bool], place: usize) -> bool {
-    set.get(place).copied().unwrap_or(false)
-}
-
-fn mark(set: &mut [bool], place: usize) {
-    if place < set.len() {
-        set[place] = true;
+        self.game
+            .places
+            .get(place)
+            .is_some_and(|place| place.weight <= heaviest)
     }
 }

@@ -1,9 +1,8 @@
-use Rattle.allplans.proofs.Checks.{made_says, right_answer, right_moved}
+use Rattle.std.proofs.Common.{◌∙◌}
+use Rattle.allplans.proofs.Checks.{right_answer, right_moved}
 use Rattle.allplans.proofs.checker.check.Goals as goal
 
-pub returns-in-Right : goal.returns-in-Right
-returns-in-Right c =
-    made_says c.check_rounds.result _ _
-    (λ rounds. right_moved _ _ _ _ _ _ c.as_slice-places.ensures.value c.as_slice-winners.ensures.value c.as_slice-plan.ensures.value
-    (right_answer c.as_slice-places.result.now c.as_slice-winners.result.now c.as_slice-plan.result.now c.if-winners-places.false c.if-plan-places.false c.in-Right.ensures (rounds c.if-plan-places.false).0 (rounds c.if-plan-places.false).1))
-    c.check_rounds.ensures
+pub returns : goal.returns
+returns c =
+    right_moved _ _ _ _ (c.in-Some.ensures.0 ∙ c.as_slice.ensures.value) (c.in-Some.ensures.1 ∙ c.as_slice-2.ensures.value)
+    (right_answer c.in-Some.claimed.places.now c.in-Some.claimed.claims.now c.in-Some.claimed.level c.in_ok-look_at_all.ensures c.in_ok-check_side.ensures c.in_ok-check_side-2.ensures)

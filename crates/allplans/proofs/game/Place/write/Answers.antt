@@ -13,5 +13,5 @@ returns c =
     c.args.self.now.weight
     _
     (c.in_ok-extend_from_slice.ensures.items
-    ∙ ap (λ (n : ℕ). vec_items c.args.words.now ++ (c.args.self.now.whose ∷ c.args.self.now.weight ∷ n ∷ [])) (c.in_ok-moves.ensures ∙ c.len.ensures))
+    ∙ ap (λ (n : ℕ). vec_items c.args.words.now ++ (c.args.self.now.whose ∷ c.args.self.now.weight ∷ n ∷ [])) (c.in_ok-moves.ensures.1 ∙ c.len.ensures))
     (c.in_ok-extend_from_slice-2.ensures.items ∙ ap (λ (l : List ℕ). vec_items c.extend_from_slice.new.self ++ l) c.as_slice.ensures.value)

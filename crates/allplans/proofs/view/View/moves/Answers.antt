@@ -1,9 +1,9 @@
-use Rattle.std.proofs.Common.{sym, ◌∙◌, arith}
-use Rattle.allplans.proofs.Views.{goes_planned, goes_free}
+use Rattle.std.proofs.Common.{arith}
+use Rattle.allplans.specs.Sides.{side_word}
+use Rattle.allplans.proofs.Views.{goes_at}
 use Rattle.allplans.proofs.view.View.moves.Goals as goal
 
-pub returns-then-here-self : goal.returns-then-here-self
-returns-then-here-self c = λ level h. c.planned.ensures (omega arith) ∙ sym (goes_planned c.args.self.places.now c.args.self.plan.now c.args.self.side c.args.place c.index-self-place.result h c.if-here-self.true)
-
-pub returns-else-here-self : goal.returns-else-here-self
-returns-else-here-self c = λ level h. c.as_slice.ensures.value ∙ sym (goes_free c.args.self.places.now c.args.self.plan.now c.args.self.side c.args.place c.index-self-place.result h c.if-here-self.false)
+pub returns-in-Some-Some : goal.returns-in-Some-Some
+returns-in-Some-Some c = λ h.
+    let g = goes_at c.args.self.claimed.places.now c.args.self.claimed.claims.now (side_word c.args.self.side) c.args.place c.in-Some-Some.here.now c.in-Some-Some.claim.now h c.in-Some-Some.ensures.lookup.1 (omega arith) c.in-Some-Some.ensures'.lookup.1 in
+    cc (c.from_ref.ensures.value, c.steps.ensures)
