@@ -43,52 +43,29 @@ pub enum Request {
     Play(Job),
 }
 
-/// What the next word is read as.
-#[derive(Clone, Copy)]
-enum Next {
-    Any,
-    Moves,
-    Side,
-    Name,
-}
-
 /// The arguments, behind the program's own name.
 pub(crate) fn parse(args: Args) -> Result<Request, Fault> {
-    let mut next = Next::Any;
+    let mut args = args;
+    let _ = args.next();
     let mut moves = 1000;
     let mut side = None;
     let mut file = None;
     let mut place = None;
-    for arg in args.skip(1) {
-        match next {
-            Next::Moves => {
-                moves = number(arg)?;
-                next = Next::Any;
-            }
-            Next::Side => {
-                side = Some(side_named(arg)?);
-                next = Next::Any;
-            }
-            Next::Name => add_name(&mut file, &mut place, arg)?,
-            Next::Any => match arg.as_str() {
-                "--help" => return Ok(Request::Help),
-                "--moves" => next = Next::Moves,
-                "--side" => next = Next::Side,
-                "--" => next = Next::Name,
-                _ => add_name(&mut file, &mut place, not_option(arg)?)?,
-            },
+    while let Some(arg) = args.next() {
+        match arg.as_str() {
+            "--help" => return Ok(Request::Help),
+            "--moves" => moves = number(args.next().ok_or(Fault::NoMoves)?)?,
+            "--side" => side = Some(side_named(args.next().ok_or(Fault::NoSide)?)?),
+            "--" => break,
+            _ => add_name(&mut file, &mut place, not_option(arg)?)?,
         }
     }
-    match next {
-        Next::Moves => return Err(Fault::NoMoves),
-        Next::Side => return Err(Fault::NoSide),
-        Next::Any | Next::Name => {}
+    // Behind `--` each word is a name.
+    for name in args {
+        add_name(&mut file, &mut place, name)?;
     }
-    let Some(file) = file else {
-        return Err(Fault::NoFile);
-    };
     Ok(Request::Play(Job {
-        file,
+        file: file.ok_or(Fault::NoFile)?,
         place,
         moves,
         side,
@@ -119,12 +96,10 @@ fn not_option(arg: String) -> Result<String, Fault> {
 }
 
 fn number(arg: String) -> Result<u64, Fault> {
-    match arg.as_str().parse::<u64>() {
-        Ok(number) => Ok(number),
-        Err(_) => Err(Fault::Moves(arg)),
-    }
+    arg.as_str().parse().map_err(|_| Fault::Moves(arg))
 }
 
+/// The sides are written 0 and 1, and not 01 or +1 as numbers may be.
 fn side_named(arg: String) -> Result<Side, Fault> {
     match arg.as_str() {
         "0" => Ok(Side::Even),

@@ -1,5 +1,5 @@
 //! Why the program ends without a play.
-use drawing::refusal::Refusal;
+use drawing::Unread;
 use std::alloc::{AllocError, AllocFailed};
 use std::{fmt, io};
 
@@ -19,30 +19,12 @@ pub enum Fault {
     NoFile,
     /// A file and a place are named already.
     ThirdName(String),
-    /// The file cannot be opened or read.
-    Unread {
-        file: String,
-        error: io::Error,
-    },
-    /// The file is not UTF-8.
-    NotText {
-        file: String,
-    },
-    /// The file is no drawing of a game; the line that is refused.
-    Refused {
-        file: String,
-        refusal: Refusal,
-        line: String,
-    },
+    /// The file holds no drawing that can be read.
+    Unread { file: String, why: Unread },
     /// The words of the drawing are no game.
-    NoGame {
-        file: String,
-    },
+    NoGame { file: String },
     /// The drawing has no place of that name.
-    NoPlace {
-        file: String,
-        place: String,
-    },
+    NoPlace { file: String, place: String },
     /// The person's lines cannot be read, or the play cannot be written.
     Talk(io::Error),
     Memory,
@@ -79,19 +61,7 @@ impl fmt::Display for Fault {
             Fault::Side(word) => write!(f, "there is no side {word}; it is 0 or 1"),
             Fault::NoFile => f.write_str("no file is named; --help says what can be"),
             Fault::ThirdName(name) => write!(f, "{name}: one file and one place at a time"),
-            Fault::Unread { file, error } => write!(f, "{file}: {error}"),
-            Fault::NotText { file } => write!(f, "{file}: not UTF-8"),
-            Fault::Refused {
-                file,
-                refusal,
-                line,
-            } => {
-                write!(f, "{file}: {refusal}")?;
-                if line.is_empty() {
-                    return Ok(());
-                }
-                write!(f, "\n  {line}")
-            }
+            Fault::Unread { file, why } => write!(f, "{file}: {why}"),
             Fault::NoGame { file } => write!(f, "{file}: no game"),
             Fault::NoPlace { file, place } => write!(f, "{file}: there is no place named {place}"),
             Fault::Talk(error) => write!(f, "{error}"),

@@ -1,12 +1,13 @@
 //! A game to play, from its drawing to the end of the play.
-ghost use Rattle.std.specs.Prelude.{◌≡◌, ◌<◌, true, length, IfOk};
+ghost use Rattle.std.specs.Prelude.{IfSome, IfOk};
 ghost use Rattle.endless.specs.Games.{Game, Reads};
-ghost use Rattle.playing.specs.Boards.{Answered, Stands};
+ghost use Rattle.playing.specs.Boards.{Answered};
 
 use crate::args::Job;
 use crate::fault::Fault;
+use crate::play::Play;
 use crate::table::Table;
-use crate::{input, play, show, wish};
+use crate::{input, show, wish};
 use playing::Board;
 use playing::board::solve;
 use std::alloc::{AllocError, Global};
@@ -18,12 +19,11 @@ pub(crate) fn run(rt: &HostRuntime, job: Job) -> Result<(), Fault> {
     let heap = rt.alloc();
     let drawing = input::drawing(rt, job.file.as_str())?;
     let words = drawing.words.as_slice();
-    let places = places(words);
+    let places = words.first().copied().unwrap_or(0) as usize;
     let mut answer = vec![in heap; 0; 2 * places]?;
-    let answer = answer.as_mut_slice();
-    if !solved(heap, words, answer)? {
+    let Some(answer) = solved(heap, words, answer.as_mut_slice())? else {
         return Err(Fault::NoGame { file: job.file });
-    }
+    };
     let mut low = vec![in heap; 0; places]?;
     let mut high = vec![in heap; 0; places]?;
     let Some(board) = Board::new(words, answer, low.as_mut_slice(), high.as_mut_slice()) else {
@@ -32,20 +32,14 @@ pub(crate) fn run(rt: &HostRuntime, job: Job) -> Result<(), Fault> {
     start(rt, job, board, drawing.names.as_slice())
 }
 
-/// How many places the words say that there are.
-fn places(words: &[u32]) -> usize
-    ensures { result < 4294967296 }
-{
-    match words.first() {
-        Some(places) => *places as usize,
-        None => 0,
-    }
-}
-
 /// Solves the game. What the solver is lent is given back before anything
 /// else is made.
-fn solved(heap: Global, words: &[u32], answer: &mut [u32]) -> Result<bool, AllocError>
-    ensures { IfOk result (λ done. done ≡ true → (g : Game) × (Reads words.now g × Answered g answer.new)) }
+fn solved<'a>(
+    heap: Global,
+    words: &[u32],
+    answer: &'a mut [u32],
+) -> Result<Option<&'a [u32]>, AllocError>
+    ensures { IfOk result (λ o. IfSome o (λ a. (g : Game) × (Reads words.now g × Answered g a.now))) }
 {
     let lent = words.len().saturating_mul(4).saturating_add(65536);
     let mut work = vec![in heap; 0; lent]?;
@@ -54,7 +48,7 @@ fn solved(heap: Global, words: &[u32], answer: &mut [u32]) -> Result<bool, Alloc
 
 /// Plays from the place that was asked for, or from the first.
 fn start<'a>(rt: &HostRuntime, job: Job, board: Board<'a>, names: &'a [String]) -> Result<(), Fault>
-    requires { (g : Game) × Stands board g }
+    requires { Answered board.game board.answer }
 {
     let Job {
         file,
@@ -64,7 +58,7 @@ fn start<'a>(rt: &HostRuntime, job: Job, board: Board<'a>, names: &'a [String]) 
     } = job;
     let first = match place {
         None => 0,
-        Some(name) => match find(rt.alloc(), names, name.as_str())? {
+        Some(name) => match find(names, name.as_str()) {
             Some(place) => place,
             None => return Err(Fault::NoPlace { file, place: name }),
         },
@@ -72,27 +66,23 @@ fn start<'a>(rt: &HostRuntime, job: Job, board: Board<'a>, names: &'a [String]) 
     if first >= board.len() {
         return Err(Fault::NoGame { file });
     }
-    let side = match side {
-        Some(side) => side,
-        None => board.winner(first),
-    };
+    let side = side.unwrap_or(board.winner(first));
     let table = Table {
         board,
         names,
         side,
         moves,
     };
-    show::start(rt, table, file.as_str(), first)?;
+    show::start(rt, &table, file.as_str(), first)?;
     let mut input = BufReader::new(rt.alloc(), rt.stdin())?;
-    play::play(rt, &mut input, table, first)
+    let mut play = Play::new(rt.alloc(), table, first)?;
+    play.run(rt, &mut input)
 }
 
 /// The place of this name, bare or in double quotes.
-fn find(heap: Global, names: &[String], text: &str) -> Result<Option<u32>, AllocError> {
-    for (index, name) in names.iter().enumerate() {
-        if wish::is_named(heap, name.as_str(), text)? {
-            return Ok(u32::try_from(index).ok());
-        }
-    }
-    Ok(None)
+fn find(names: &[String], text: &str) -> Option<u32> {
+    let index = names
+        .iter()
+        .position(|name| wish::is_named(name.as_str(), text))?;
+    u32::try_from(index).ok()
 }

@@ -1,205 +1,193 @@
 //! The play: the program's moves and the person's, one after another.
-ghost use Rattle.std.specs.Prelude.{◌≡◌, ◌<◌, length, IfOk};
-ghost use Rattle.endless.specs.Games.{Game};
+ghost use Rattle.std.specs.Prelude.{◌≡◌, ◌<◌, length, IfOk, IfSome, OnOk};
 ghost use Rattle.endless.specs.Graph.{moves};
-ghost use Rattle.endless.specs.Sides.{number};
-ghost use Rattle.playing.specs.Boards.{Stands, Stepped};
-ghost use Rattle.endless_play.specs.Turns.{Within};
 ghost use Rattle.endless_play.specs.Wishes.{InList};
 
 use crate::fault::Fault;
-use crate::input::Typed;
 use crate::table::Table;
-use crate::wish::Wish;
+use crate::wish::{NoWish, Wish};
 use crate::{input, show, wish};
 use playing::{Trail, steps};
-use std::alloc::AllocError;
+use std::alloc::{AllocError, Global};
 use std::io;
 use std::io::BufRead;
+use std::marker::Model;
 
-/// What comes next in a play.
+/// What comes next in a play that goes on.
 #[derive(Clone, Copy)]
 pub enum Turn {
     /// The move with this index, where the plan does not say where to go.
     Move(usize),
     /// The last choice is taken back.
     Back,
-    /// The play ends.
-    End,
 }
 
-/// Makes a move, and tells it.
-fn go(
-    rt: &HostRuntime,
-    table: Table,
-    trail: &mut Trail,
+/// A play: what it is played on, what it has come through, and where it
+/// stands.
+#[derive(Drop)]
+pub struct Play<'a> {
+    table: Table<'a>,
+    trail: Trail,
     place: u32,
-    choice: usize,
-) -> Result<u32, Fault>
-    requires { (g : Game) × Stands table.board g × (place < length g) × (choice < length (moves g place)) }
-    ensures { IfOk result (λ to. (g : Game) → Stands table.entry.board g → place < length g → choice < length (moves g place) → Stepped g table.entry.board.answer.now (number table.entry.side) place choice to) }
-{
-    let to = steps::step(table.board, table.side, place, choice);
-    show::moved(rt, table, place, to)?;
-    trail.come(table.board.weight(to))?;
-    Ok(to)
-}
-
-/// Takes the last choice back: the place where it was made, or the same place
-/// where none can be taken back.
-fn back(rt: &HostRuntime, table: Table, trail: &mut Trail, place: u32) -> Result<u32, Fault>
-    requires { (g : Game) × Stands table.board g × (place < length g) }
-    ensures { IfOk result (λ to. (g : Game) → Stands table.entry.board g → place < length g → to < length g) }
-{
-    let before = trail.made();
-    match trail.back(rt.alloc())? {
-        Some(to) if to < table.board.len() => {
-            let taken = before.saturating_sub(trail.made());
-            println!(rt; "back to before your last choice; moves taken back: {taken}")?;
-            Ok(to)
-        }
-        _ => {
-            println!(rt; "no choice of yours is left that can be taken back")?;
-            Ok(place)
-        }
-    }
-}
-
-/// Reads lines until one says how the play goes on at this place.
-fn ask<R: BufRead>(
-    rt: &HostRuntime,
-    input: &mut R,
-    table: Table,
-    trail: &Trail,
-    place: u32,
-) -> Result<Turn, Fault>
-    requires { (g : Game) × Stands table.board g × (place < length g) }
-    ensures { IfOk result (λ t. Within table.entry.board place t) }
-{
-    let moves = table.board.moves(place);
-    show::moves(rt, table, moves)?;
-    for _ in 0..u64::MAX {
-        match heard(rt, input, table, moves)? {
-            Wish::Move(index) => return Ok(Turn::Move(index)),
-            Wish::Back => return Ok(Turn::Back),
-            Wish::Quit => return Ok(Turn::End),
-            Wish::Status => show::status(rt, table, trail, place)?,
-            other => show::answer(rt, other, moves.len())?,
-        }
-        show::question(rt)?;
-    }
-    Ok(Turn::End)
-}
-
-/// What the next line asks for; the end of the input asks for the end.
-fn heard<R: BufRead>(
-    rt: &HostRuntime,
-    input: &mut R,
-    table: Table,
-    moves: &[u32],
-) -> Result<Wish, Fault>
-    ensures { IfOk result (λ w. InList w (length moves.now)) }
-{
-    match input::next_line(rt.alloc(), input)? {
-        Typed::Text(line) => Ok(wish::understand(rt.alloc(), table.names, moves, line.as_str())?),
-        Typed::NotText => Ok(Wish::NotText),
-        Typed::TooLong => Ok(Wish::TooLong),
-        Typed::End => Ok(Wish::Quit),
-    }
-}
-
-/// What comes next at a place: the person is asked where there is a choice;
-/// elsewhere the play goes on, for a number of moves.
-fn next_turn<R: BufRead>(
-    rt: &HostRuntime,
-    input: &mut R,
-    table: Table,
-    trail: &Trail,
-    place: u32,
+    /// How many moves came since the person's last choice.
     alone: u64,
-) -> Result<Turn, Fault>
-    requires { (g : Game) × Stands table.board g × (place < length g) }
-    ensures { IfOk result (λ t. Within table.entry.board place t) }
-{
-    show::place(rt, table, place)?;
-    if has_choice(table, place) {
-        return ask(rt, input, table, trail, place);
-    }
-    if alone >= table.moves {
-        println!(rt; "no choice of yours comes; moves made without one: {alone}")?;
-        return Ok(Turn::End);
-    }
-    Ok(Turn::Move(0))
 }
 
-/// Whether the person chooses at a place: it is his move, and there is more
-/// than one.
-fn has_choice(table: Table, place: u32) -> bool
-    requires { (g : Game) × Stands table.board g × (place < length g) }
-{
-    if table.board.whose(place).to_word() == table.side.to_word() {
-        return false;
-    }
-    table.board.moves(place).len() > 1
+// Clauses see what it is played on, and the place.
+impl<'a> Model for Play<'a> {
+    ghost use Rattle.std.specs.Prelude.{◌<◌, length};
+    ghost use Rattle.endless_play.specs.Settings.{Standing};
+
+    ghost Value = { Standing };
+
+    ghost view = { λ p. record { table = p.table; place = p.place } };
+
+    ghost invariant = { λ p. p.place < length p.table.game };
 }
 
-/// Makes the turn: where the play stands then.
-fn make(
-    rt: &HostRuntime,
-    table: Table,
-    trail: &mut Trail,
-    place: u32,
-    turn: Turn,
-) -> Result<u32, Fault>
-    requires on { (g : Game) × Stands table.board g × (place < length g) }
-    requires within { Within table.board place turn }
-    ensures { IfOk result (λ to. (g : Game) → Stands table.entry.board g → place < length g → to < length g) }
-{
-    match turn {
-        Turn::Move(choice) => {
-            if has_choice(table, place) {
-                trail.choose(place)?;
+impl<'a> Play<'a> {
+    ghost use Rattle.endless_play.specs.Settings.{Goes};
+    ghost use Rattle.endless_play.specs.Turns.{Within};
+
+    /// A play that stands at its first place.
+    pub(crate) fn new(heap: Global, table: Table<'a>, place: u32) -> Result<Play<'a>, AllocError>
+        requires { place < length table.game }
+        ensures { IfOk result (λ p. p ≡ record { table = table.entry; place = place }) }
+    {
+        let trail = Trail::start(heap, table.board.weight(place))?;
+        Ok(Play {
+            table,
+            trail,
+            place,
+            alone: 0,
+        })
+    }
+
+    /// Plays until the person or the input ends it, or no choice comes.
+    pub(crate) fn run<R: BufRead>(&mut self, rt: &HostRuntime, input: &mut R) -> Result<(), Fault> {
+        // Only the input ends a play, so that there is nothing else to go over.
+        for _ in 0..u64::MAX {
+            let Some(turn) = self.next_turn(rt, input)? else {
+                break;
+            };
+            self.make(rt, turn)?;
+        }
+        println!(rt; "the play ends")?;
+        self.tell_status(rt)
+    }
+
+    /// What comes next: the person is asked where there is a choice; elsewhere
+    /// the play goes on, for a number of moves. `None` where it ends.
+    fn next_turn<R: BufRead>(&self, rt: &HostRuntime, input: &mut R) -> Result<Option<Turn>, Fault>
+        ensures { IfOk result (λ t. IfSome t (Within self.now)) }
+    {
+        let table = &self.table;
+        show::place(rt, table, self.place)?;
+        if table.has_choice(self.place) {
+            return self.ask(rt, input);
+        }
+        let alone = self.alone;
+        if alone >= table.moves {
+            println!(rt; "no choice of yours comes; moves made without one: {alone}")?;
+            return Ok(None);
+        }
+        prove!(!table.board.moves(self.place).is_empty());
+        Ok(Some(Turn::Move(0)))
+    }
+
+    /// Reads lines until one says how the play goes on.
+    fn ask<R: BufRead>(&self, rt: &HostRuntime, input: &mut R) -> Result<Option<Turn>, Fault>
+        ensures { IfOk result (λ t. IfSome t (Within self.now)) }
+    {
+        let table = &self.table;
+        let moves = table.board.moves(self.place);
+        show::moves(rt, table, moves)?;
+        // Only the input ends it, so that there is nothing else to go over.
+        for _ in 0..u64::MAX {
+            match heard(rt.alloc(), input, table.names, moves)? {
+                Ok(Wish::Move(index)) => return Ok(Some(Turn::Move(index))),
+                Ok(Wish::Back) => return Ok(Some(Turn::Back)),
+                Ok(Wish::Quit) => return Ok(None),
+                Ok(Wish::Status) => self.tell_status(rt)?,
+                Ok(Wish::Help) => show::help(rt)?,
+                Err(reason) => println!(rt; "{reason}")?,
             }
-            go(rt, table, trail, place, choice)
+            show::question(rt)?;
         }
-        Turn::Back => back(rt, table, trail, place),
-        Turn::End => Ok(place),
+        Ok(None)
+    }
+
+    fn tell_status(&self, rt: &HostRuntime) -> Result<(), Fault> {
+        show::status(rt, &self.table, &self.trail, self.place)
+    }
+
+    /// Makes the turn.
+    fn make(&mut self, rt: &HostRuntime, turn: Turn) -> Result<(), Fault>
+        requires { Within self.old turn }
+    {
+        match turn {
+            Turn::Move(choice) => {
+                let table = &self.table;
+                if table.has_choice(self.place) {
+                    self.trail.choose(self.place)?;
+                    self.alone = 0;
+                } else {
+                    self.alone = self.alone.saturating_add(1);
+                }
+                self.go(rt, choice)
+            }
+            Turn::Back => {
+                self.alone = 0;
+                self.back(rt)
+            }
+        }
+    }
+
+    /// Makes a move, and tells it.
+    fn go(&mut self, rt: &HostRuntime, choice: usize) -> Result<(), Fault>
+        requires { choice < length (moves self.old.table.game self.old.place) }
+        ensures { OnOk result (Goes self.old self.new choice) }
+    {
+        let table = &self.table;
+        let to = steps::step(&table.board, table.side, self.place, choice);
+        show::moved(rt, table, self.place, to)?;
+        let weight = table.board.weight(to);
+        self.trail.come(weight)?;
+        self.place = to;
+        Ok(())
+    }
+
+    /// Takes the last choice back, to the place where it was made; the play
+    /// stays where it is where none can be taken back.
+    fn back(&mut self, rt: &HostRuntime) -> Result<(), Fault> {
+        let before = self.trail.made();
+        let table = &self.table;
+        let places = table.board.len();
+        match self.trail.back(rt.alloc())? {
+            Some(to) if to < places => {
+                let taken = before.saturating_sub(self.trail.made());
+                println!(rt; "back to before your last choice; moves taken back: {taken}")?;
+                self.place = to;
+            }
+            _ => println!(rt; "no choice of yours is left that can be taken back")?,
+        }
+        Ok(())
     }
 }
 
-/// Plays from a place until the person or the input ends it, or no choice
-/// comes.
-pub(crate) fn play<R: BufRead>(
-    rt: &HostRuntime,
+/// What the next line asks for, or why it asks for nothing; the end of the
+/// input asks for the end.
+fn heard<R: BufRead>(
+    heap: Global,
     input: &mut R,
-    table: Table,
-    start: u32,
-) -> Result<(), Fault>
-    requires { (g : Game) × Stands table.board g × (start < length g) }
+    names: &[String],
+    moves: &[u32],
+) -> Result<Result<Wish, NoWish>, Fault>
+    ensures { IfOk result (λ w. IfOk w (InList (length moves.now))) }
 {
-    let mut trail = Trail::start(rt.alloc(), table.board.weight(start))?;
-    let mut place = start;
-    let mut alone: u64 = 0;
-    for _ in 0..u64::MAX {
-        let turn = next_turn(rt, input, table, &trail, place, alone)?;
-        if let Turn::End = turn {
-            break;
-        }
-        alone = counted(table, place, alone);
-        place = make(rt, table, &mut trail, place, turn)?;
-    }
-    println!(rt; "the play ends")?;
-    show::status(rt, table, &trail, place)
-}
-
-/// How many moves came since the person's last choice, with one more from
-/// this place.
-fn counted(table: Table, place: u32, alone: u64) -> u64
-    requires { (g : Game) × Stands table.board g × (place < length g) }
-{
-    if has_choice(table, place) {
-        0
-    } else {
-        alone.saturating_add(1)
+    match input::next_line(heap, input)? {
+        None => Ok(Ok(Wish::Quit)),
+        Some(Ok(line)) => Ok(wish::understand(names, moves, line.as_str())),
+        Some(Err(reason)) => Ok(Err(reason)),
     }
 }

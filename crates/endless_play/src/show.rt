@@ -1,28 +1,26 @@
 //! What is said to the person, a line at a time.
 ghost use Rattle.std.specs.Prelude.{◌<◌, length};
-ghost use Rattle.endless.specs.Games.{Game};
-ghost use Rattle.playing.specs.Boards.{Stands};
 
 use crate::fault::Fault;
 use crate::table::Table;
 use crate::wish;
-use crate::wish::Wish;
 use endless::side::Side;
 use playing::{Trail, steps};
 use std::alloc::AllocError;
 use std::io;
 
 /// The name of a place, as a drawing writes it.
-fn name(rt: &HostRuntime, table: Table, place: u32) -> Result<String, Fault> {
+fn name(rt: &HostRuntime, table: &Table, place: u32) -> Result<String, Fault> {
     Ok(drawing::written(rt.alloc(), wish::name(table.names, place))?)
 }
 
 /// Who plays which side, and whether the program's side wins from the first
 /// place.
-pub(crate) fn start(rt: &HostRuntime, table: Table, file: &str, place: u32) -> Result<(), Fault>
-    requires { (g : Game) × Stands table.board g × (place < length g) }
+pub(crate) fn start(rt: &HostRuntime, table: &Table, file: &str, place: u32) -> Result<(), Fault>
+    requires { place < length table.now.game }
 {
     let first = name(rt, table, place)?;
+    let wins = table.board.winner(place) == table.side;
     let winner = table.board.winner(place).to_word();
     let own = table.side.to_word();
     let yours = table.side.other().to_word();
@@ -30,7 +28,7 @@ pub(crate) fn start(rt: &HostRuntime, table: Table, file: &str, place: u32) -> R
     println!(rt;
         "the program plays side {own}, you play side {yours}; :help says what you can type"
     )?;
-    if winner != own {
+    if !wins {
         println!(rt;
             "side {own} does not win from {first}: where it does not win, the program makes any move"
         )?;
@@ -39,23 +37,20 @@ pub(crate) fn start(rt: &HostRuntime, table: Table, file: &str, place: u32) -> R
 }
 
 /// The place where the play stands, its weight, and whose move it is.
-pub(crate) fn place(rt: &HostRuntime, table: Table, place: u32) -> Result<(), Fault>
-    requires { (g : Game) × Stands table.board g × (place < length g) }
+pub(crate) fn place(rt: &HostRuntime, table: &Table, place: u32) -> Result<(), Fault>
+    requires { place < length table.now.game }
 {
     let here = name(rt, table, place)?;
     let weight = table.board.weight(place);
+    let own = table.board.whose(place) == table.side;
+    let who = if own { "the program" } else { "you" };
     let whose = table.board.whose(place).to_word();
-    let who = if whose == table.side.to_word() {
-        "the program"
-    } else {
-        "you"
-    };
     println!(rt; "at {here}, weight {weight}: side {whose} moves, {who}")?;
     Ok(())
 }
 
 /// The moves to choose from, by number and name.
-pub(crate) fn moves(rt: &HostRuntime, table: Table, moves: &[u32]) -> Result<(), Fault> {
+pub(crate) fn moves(rt: &HostRuntime, table: &Table, moves: &[u32]) -> Result<(), Fault> {
     for (index, to) in moves.iter().enumerate() {
         let number = index + 1;
         let to = name(rt, table, *to)?;
@@ -71,14 +66,14 @@ pub(crate) fn question(rt: &HostRuntime) -> Result<(), Fault> {
 }
 
 /// A move from one place to another, and why that one.
-pub(crate) fn moved(rt: &HostRuntime, table: Table, from: u32, to: u32) -> Result<(), Fault>
-    requires { (g : Game) × Stands table.board g × (from < length g) }
+pub(crate) fn moved(rt: &HostRuntime, table: &Table, from: u32, to: u32) -> Result<(), Fault>
+    requires { from < length table.now.game }
 {
     let own = table.side.to_word();
     let to = name(rt, table, to)?;
-    if steps::goes_by_plan(table.board, table.side, from) {
+    if steps::goes_by_plan(&table.board, table.side, from) {
         println!(rt; "the program goes to {to}, by its plan")?;
-    } else if table.board.whose(from).to_word() == own {
+    } else if table.board.whose(from) == table.side {
         println!(rt;
             "the program goes to {to}: side {own} does not win here, so it makes any move"
         )?;
@@ -92,8 +87,13 @@ pub(crate) fn moved(rt: &HostRuntime, table: Table, from: u32, to: u32) -> Resul
 
 /// How many moves were made and what weighed most among the last places, with
 /// the answer's verdict on the place where the play stands.
-pub(crate) fn status(rt: &HostRuntime, table: Table, trail: &Trail, place: u32) -> Result<(), Fault>
-    requires { (g : Game) × Stands table.board g × (place < length g) }
+pub(crate) fn status(
+    rt: &HostRuntime,
+    table: &Table,
+    trail: &Trail,
+    place: u32,
+) -> Result<(), Fault>
+    requires { place < length table.now.game }
 {
     let made = trail.made();
     let last = trail.len();
@@ -113,7 +113,7 @@ pub(crate) fn status(rt: &HostRuntime, table: Table, trail: &Trail, place: u32) 
 }
 
 /// What the person can type.
-fn help(rt: &HostRuntime) -> Result<(), Fault> {
+pub(crate) fn help(rt: &HostRuntime) -> Result<(), Fault> {
     println!(rt; "type a name or a number of the list to make that move, or")?;
     println!(rt;
         "  :status  how many moves were made, and the heaviest weight of the last 1,000 places"
@@ -121,21 +121,5 @@ fn help(rt: &HostRuntime) -> Result<(), Fault> {
     println!(rt; "  :back    back to before your last choice")?;
     println!(rt; "  :quit    end the play")?;
     println!(rt; "a name that begins with a colon is typed in double quotes, or by its number")?;
-    Ok(())
-}
-
-/// Why a line is no move, in words; `:help` is such a line too.
-pub(crate) fn answer(rt: &HostRuntime, wish: Wish, many: usize) -> Result<(), Fault> {
-    match wish {
-        Wish::Help => help(rt)?,
-        Wish::NoCommand => println!(rt; "there is no such command; :help lists them")?,
-        Wish::NoNumber => println!(rt; "there is no such number; the list goes from 1 to {many}")?,
-        Wish::NoMove => println!(rt;
-            "that is neither a name nor a number of the list; :help says what you can type"
-        )?,
-        Wish::NotText => println!(rt; "that line is not UTF-8")?,
-        Wish::TooLong => println!(rt; "that line is longer than 256 bytes")?,
-        Wish::Move(_) | Wish::Status | Wish::Back | Wish::Quit => {}
-    }
     Ok(())
 }

@@ -1,13 +1,38 @@
 //! What a play is played on.
+ghost use Rattle.std.specs.Prelude.{◌<◌, length};
+
 use endless::side::Side;
-use playing::board::Board;
+use playing::Board;
+use std::marker::Model;
 
 /// A solved game with the names of its places, which side is the program's,
 /// and how many moves it goes on where no choice of the person comes.
-#[derive(Clone, Copy)]
+#[derive(Drop)]
 pub struct Table<'a> {
     pub board: Board<'a>,
     pub names: &'a [String],
     pub side: Side,
     pub moves: u64,
+}
+
+// Clauses see the game, the answer and the program's side.
+impl<'a> Model for Table<'a> {
+    ghost use Rattle.endless_play.specs.Settings.{Setting};
+    ghost use Rattle.playing.specs.Boards.{Answered};
+
+    ghost Value = { Setting };
+
+    ghost view = { λ t. record { game = t.board.game; answer = t.board.answer; side = t.side } };
+
+    ghost invariant = { λ t. Answered t.board.game t.board.answer };
+}
+
+impl<'a> Table<'a> {
+    /// Whether the person chooses at a place: it is his move, and there is
+    /// more than one.
+    pub(crate) fn has_choice(&self, place: u32) -> bool
+        requires { place < length self.now.game }
+    {
+        self.board.whose(place) != self.side && self.board.moves(place).len() > 1
+    }
 }

@@ -1,10 +1,10 @@
 //! What a person's line asks for.
-ghost use Rattle.std.specs.Prelude.{◌≡◌, ◌<◌, length, IfSome, IfOk};
+ghost use Rattle.std.specs.Prelude.{◌<◌, length, IfSome, IfOk};
 ghost use Rattle.endless_play.specs.Wishes.{InList};
 
-use std::alloc::{AllocError, Global};
+use std::fmt;
 
-/// What the person wants, or why the line is nothing that can be wanted.
+/// What the person wants.
 #[derive(Clone, Copy)]
 pub enum Wish {
     /// The move with this index in the list, counted from 0.
@@ -13,111 +13,108 @@ pub enum Wish {
     Status,
     Back,
     Quit,
+}
+
+/// Why a line is nothing that can be wanted.
+#[derive(Clone, Copy)]
+pub enum NoWish {
     /// There is no such command.
-    NoCommand,
-    /// The list has no such number.
-    NoNumber,
+    Command,
+    /// The list has no such number; it goes from 1 to this one.
+    Number(usize),
     /// It is no name and no number of the list.
-    NoMove,
+    Move,
     /// The line is not UTF-8.
     NotText,
     /// The line is too long.
     TooLong,
 }
 
+impl fmt::Display for NoWish {
+    fn fmt<W: fmt::Write>(&self, f: &mut fmt::Formatter<W>) -> fmt::Result {
+        match self {
+            NoWish::Command => f.write_str("there is no such command; :help lists them"),
+            NoWish::Number(many) => {
+                write!(f, "there is no such number; the list goes from 1 to {many}")
+            }
+            NoWish::Move => f.write_str(
+                "that is neither a name nor a number of the list; :help says what you can type",
+            ),
+            NoWish::NotText => f.write_str("that line is not UTF-8"),
+            NoWish::TooLong => f.write_str("that line is longer than 256 bytes"),
+        }
+    }
+}
+
 /// What the line asks for at a place with these moves: a command where it
 /// begins with a colon, else a name, else a number of the list.
-pub fn understand(
-    heap: Global,
-    names: &[String],
-    moves: &[u32],
-    line: &str,
-) -> Result<Wish, AllocError>
-    ensures { IfOk result (λ w. InList w (length moves.now)) }
+pub fn understand(names: &[String], moves: &[u32], line: &str) -> Result<Wish, NoWish>
+    ensures { IfOk result (InList (length moves.now)) }
 {
     let text = line.trim_ascii();
     if text.starts_with(":") {
-        return Ok(command(text));
+        return command(text);
     }
-    if let Some(index) = named(heap, names, moves, text)? {
-        return Ok(Wish::Move(index));
+    match named(names, moves, text) {
+        Some(index) => Ok(Wish::Move(index)),
+        None => numbered(moves.len(), text),
     }
-    Ok(numbered(moves.len(), text))
 }
 
-fn command(text: &str) -> Wish
-    ensures { InList result 0 }
+fn command(text: &str) -> Result<Wish, NoWish>
+    ensures { IfOk result (InList 0) }
 {
     match text {
-        ":help" => Wish::Help,
-        ":status" => Wish::Status,
-        ":back" => Wish::Back,
-        ":quit" => Wish::Quit,
-        _ => Wish::NoCommand,
+        ":help" => Ok(Wish::Help),
+        ":status" => Ok(Wish::Status),
+        ":back" => Ok(Wish::Back),
+        ":quit" => Ok(Wish::Quit),
+        _ => Err(NoWish::Command),
     }
 }
 
 /// The first move to a place of this name, bare or in double quotes.
-fn named(
-    heap: Global,
-    names: &[String],
-    moves: &[u32],
-    text: &str,
-) -> Result<Option<usize>, AllocError>
-    ensures { IfOk result (λ o. IfSome o (λ i. i < length moves.now)) }
+fn named(names: &[String], moves: &[u32], text: &str) -> Option<usize>
+    ensures { IfSome result (λ i. i < length moves.now) }
 {
-    for (index, to) in moves.iter().enumerate() {
-        if is_named(heap, name(names, *to), text)? {
-            return Ok(Some(index));
-        }
-    }
-    Ok(None)
+    moves.iter().position(|&to| is_named(name(names, to), text))
 }
 
-pub fn is_named(heap: Global, name: &str, text: &str) -> Result<bool, AllocError> {
-    if name == text {
-        return Ok(true);
-    }
-    if !text.starts_with("\"") {
-        return Ok(false);
-    }
-    let quoted = quoted(heap, name)?;
-    Ok(quoted.as_str() == text)
+/// Whether the text is this name, bare or in double quotes.
+pub fn is_named(name: &str, text: &str) -> bool {
+    name == text || is_quoted(name, text)
 }
 
-/// The name in double quotes.
-fn quoted(heap: Global, name: &str) -> Result<String, AllocError> {
-    let mut text = String::from_str(heap, "\"")?;
+/// Whether the text is this name in double quotes, with a backslash before
+/// each quote and each backslash in it.
+fn is_quoted(name: &str, text: &str) -> bool {
+    let mut rest = text.chars();
+    if rest.next() != Some('"') {
+        return false;
+    }
     for c in name.chars() {
-        if c == '"' || c == '\\' {
-            text.push('\\')?;
+        if (c == '"' || c == '\\') && rest.next() != Some('\\') {
+            return false;
         }
-        text.push(c)?;
+        if rest.next() != Some(c) {
+            return false;
+        }
     }
-    text.push('"')?;
-    Ok(text)
+    rest.next() == Some('"') && rest.next().is_none()
 }
 
 /// The number of a list of so many moves, which counts from 1.
-fn numbered(many: usize, text: &str) -> Wish
-    ensures { InList result many }
+fn numbered(many: usize, text: &str) -> Result<Wish, NoWish>
+    ensures { IfOk result (InList many) }
 {
     match text.parse::<usize>() {
-        Err(_) => Wish::NoMove,
-        Ok(number) => {
-            if number == 0 || number > many {
-                Wish::NoNumber
-            } else {
-                Wish::Move(number - 1)
-            }
-        }
+        Err(_) => Err(NoWish::Move),
+        Ok(number) if (1..=many).contains(&number) => Ok(Wish::Move(number - 1)),
+        Ok(_) => Err(NoWish::Number(many)),
     }
 }
 
 /// The name of a place.
 pub fn name(names: &[String], place: u32) -> &str {
-    match names.get(place as usize) {
-        Some(name) => name.as_str(),
-        None => "?",
-    }
+    names.get(place as usize).map_or("?", |name| name.as_str())
 }

@@ -1,6 +1,7 @@
 -- What a solved game says of its places, and of a step.
-use Rattle.std.proofs.Common.{◌≡◌, ℕ, ◌<◌, List, [], ◌∷◌, length, get_or, sym, refl, subst, arith}
-use Rattle.endless.specs.Games.{Game, Reads, Among, May}
+use Rattle.std.specs.Prelude.{All, IfSome}
+use Rattle.std.proofs.Common.{◌≡◌, ℕ, zero, suc, ◌<◌, List, [], ◌∷◌, length, get_or, Some, None, Option, sym, refl, ◌∙◌, subst, arith}
+use Rattle.endless.specs.Games.{Game, Reads, Among, first, later, May}
 use Rattle.endless.specs.Graph.{moves}
 use Rattle.endless.specs.Says.{WinsFrom, goes}
 use Rattle.endless.specs.Sides.{number}
@@ -8,7 +9,9 @@ use Rattle.endless.specs.declared.side.Side.{Side}
 use Rattle.endless.specs.declared.side.Side.TheVariants.{Even, Odd}
 use Rattle.endless.proofs.Among.{at_among}
 use Rattle.endless.proofs.Places.{has_move, to_place}
+use Rattle.endless.proofs.View.{game_in_reads}
 use Rattle.playing.specs.Boards.{Won, Answered, ByPlanHere, Stepped}
+use Rattle.playing.specs.Solutions.{Solution}
 
 some_among : (m : ℕ) (xs : List ℕ) → Among m xs → 0 < length xs
 some_among m [] a = elim a [ ]
@@ -17,12 +20,34 @@ some_among m (x ∷ xs) a = omega arith
 pub some_moves : {s : List ℕ} {g : Game} → Reads s g → (n : ℕ) → n < length g → 0 < length (moves g n)
 some_moves {s} {g} r n h = let t = has_move r n h in some_among t.0 (moves g n) t.1
 
+-- two games that words read as are one, so an answer to one is an answer to the other
+pub answered_too : {s : List ℕ} {g g' : Game} {o : List ℕ} → Reads s g → Reads s g' → Answered g o → Answered g' o
+answered_too {o = o} r r' a = subst (λ g. Answered g o) (sym (game_in_reads _ _ r) ∙ game_in_reads _ _ r') a
+
+-- a board of the game that words are, with the answer that solves them
+pub answered_board : {s o : List ℕ} (b : Solution) → Reads s b.game → b.answer ≡ o → (g : Game) × (Reads s g × Answered g o) → Answered b.game b.answer
+answered_board b reads is solved = subst (Answered b.game) (sym is) (answered_too solved.1.0 reads solved.1.1)
+
+pub answered_if : (s o : List ℕ) (r : Option Solution) → IfSome r (λ b. Reads s b.game) → IfSome r (λ b. b.answer ≡ o) → (g : Game) × (Reads s g × Answered g o)
+    → IfSome r (λ b. Reads s b.game × Answered b.game b.answer)
+answered_if s o None reads is solved = tt
+answered_if s o (Some b) reads is solved = (reads, answered_board b reads is solved)
+
+-- all moves of a place are places
+at_index : (xs : List ℕ) (k d : ℕ) → k < length xs → Among (get_or xs k d) xs
+at_index [] k d h = absurd (omega arith)
+at_index (x ∷ xs) zero d h = first
+at_index (x ∷ xs) (suc k) d h = later (at_index xs k d (omega arith))
+
+pub moves_within : {s : List ℕ} {g : Game} → Reads s g → (n : ℕ) → All (λ m. m < length g) (moves g n)
+moves_within {s} {g} r n k d h = to_place r n (get_or (moves g n) k d) (at_index (moves g n) k d h)
+
 -- the plan wins for either side from the places given to it
 pub wins : {g : Game} {o : List ℕ} → Answered g o → (w : Side) → WinsFrom g (number w) (goes o) (Won g o (number w))
 wins a Even = a.even
 wins a Odd = a.odd
 
-module _ {s : List ℕ} {g : Game} {o : List ℕ} (reads : Reads s g) (answered : Answered g o) (w : Side) (n choice : ℕ) (here : n < length g) where
+module _ {g : Game} {o : List ℕ} (answered : Answered g o) (w : Side) (n choice : ℕ) (here : n < length g) where
   -- by the plan
   pub stepped_plan : (m : ℕ) → ByPlanHere g o (number w) n → m ≡ goes o n → Stepped g o (number w) n choice m
   stepped_plan m by e =
@@ -30,14 +55,13 @@ module _ {s : List ℕ} {g : Game} {o : List ℕ} (reads : Reads s g) (answered 
       subst (Stepped g o (number w) n choice) (sym e) (record { may = t.0; planned = λ _. refl; chosen = λ d. absurd (d by); stays = λ _. t.1.1; within = t.1.0 })
 
   -- by choice
-  pub stepped_choice : (m : ℕ) → (ByPlanHere g o (number w) n → ⊥) → choice < length (moves g n) → m ≡ get_or (moves g n) choice 0 → Stepped g o (number w) n choice m
-  stepped_choice m d h e =
+  pub stepped_choice : (ByPlanHere g o (number w) n → ⊥) → choice < length (moves g n) → All (λ m. m < length g) (moves g n) → Stepped g o (number w) n choice (get_or (moves g n) choice 0)
+  stepped_choice d h within =
       let may : May g n (get_or (moves g n) choice 0) = at_among (moves g n) choice h in
-      subst (Stepped g o (number w) n choice) (sym e)
-      (record {
+      record {
         may = may;
         planned = λ by. absurd (d by);
         chosen = λ _. refl;
         stays = λ won. ((wins answered w).held n (get_or (moves g n) choice 0) (here, won) (λ own. d (own, won)) may).1;
-        within = to_place reads n (get_or (moves g n) choice 0) may;
-      })
+        within = within choice 0 h;
+      }

@@ -1,2 +1,2 @@
-mod Rings
+mod Windows
 pub mod Boards

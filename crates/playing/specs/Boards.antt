@@ -3,8 +3,6 @@ use Rattle.std.specs.Prelude.{◌≡◌, ℕ, ◌*◌, ◌<◌, ◌≤◌, List,
 use Rattle.endless.specs.Games.{Game, whose, May}
 use Rattle.endless.specs.Graph.{moves}
 use Rattle.endless.specs.Says.{WinsFrom, side, goes}
-use Rattle.endless.specs.View.{Shows}
-use Rattle.playing.specs.declared.board.Board.{Board}
 
 -- the places that an answer gives to a side
 abbrev pub Won : Game → List ℕ → ℕ → ℕ → Type 0
@@ -16,11 +14,6 @@ pub record Answered (g : Game) (o : List ℕ) : Type 0 where
   pub fair : (n : ℕ) → n < length g → side o n < 2
   pub even : WinsFrom g 0 (goes o) (Won g o 0)
   pub odd : WinsFrom g 1 (goes o) (Won g o 1)
-
--- the board shows the game, with an answer to it
-pub record Stands (b : Board) (g : Game) : Type 0 where
-  pub shows : Shows b.places g
-  pub answered : Answered g b.answer.now
 
 -- side w goes by the plan at its own places that the answer gives to it
 abbrev pub ByPlanHere : Game → List ℕ → ℕ → ℕ → Type 0

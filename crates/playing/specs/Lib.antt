@@ -2,3 +2,4 @@
 pub mod Windows
 pub mod Boards
 pub mod Trails
+pub mod Solutions

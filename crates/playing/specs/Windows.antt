@@ -1,5 +1,7 @@
--- The weights that came last, in a ring, and how often each stands there.
-use Rattle.std.specs.Prelude.{◌≡◌, ℕ, ◌+◌, ◌-◌, ◌<◌, ◌≤◌, List, [], ◌++◌, length, take, drop, Some, None, Option, slice_index, slice_set}
+-- The weights that came last, and how often each stands among them.
+use Rattle.std.specs.Prelude.{◌≡◌, ℕ, ◌+◌, ◌-◌, ◌<◌, ◌≤◌, List, [], length, drop, Some, None, Option, slice_index, slice_set}
+use Rattle.std.specs.VecDeque.{deque_items, deque_len, deque_capacity}
+use Rattle.std.specs.declared.collections.VecDeque.{VecDeque}
 use Rattle.endless.specs.Games.{Among}
 use Rattle.endless.specs.Graph.{times}
 
@@ -7,13 +9,9 @@ use Rattle.endless.specs.Graph.{times}
 abbrev pub latest : ℕ → List ℕ → List ℕ
 latest n xs = drop (length xs - n) xs
 
--- what stands in a ring, from the oldest on
-abbrev pub around : List ℕ → ℕ → List ℕ
-around ring oldest = drop oldest ring ++ take oldest ring
-
--- the ring is what is left of these weights, which came one after another: the last 1,000
-abbrev pub Holds : List ℕ → ℕ → List ℕ → Type 0
-Holds ring oldest all = around ring oldest ≡ latest 1000 all
+-- the window is what is left of these weights, which came one after another: the last 1,000
+abbrev pub Holds : List ℕ → List ℕ → Type 0
+Holds window all = window ≡ latest 1000 all
 
 -- one more of a weight, and one less
 abbrev pub more : ℕ → List ℕ → List ℕ
@@ -22,13 +20,20 @@ more weight counts = slice_set counts weight (slice_index counts weight + 1)
 abbrev pub less : ℕ → List ℕ → List ℕ
 less weight counts = slice_set counts weight (slice_index counts weight - 1)
 
--- each count is how often its weight stands in the ring
+-- each count is how often its weight stands among these
 abbrev pub Tells : List ℕ → List ℕ → Type 0
-Tells counts ring = (k : ℕ) → k < 256 → slice_index counts k ≡ times k ring
+Tells counts weights = (k : ℕ) → k < 256 → slice_index counts k ≡ times k weights
 
--- no weight of 256 or more stands in the ring
+-- no weight of 256 or more stands among these
 abbrev pub Light : List ℕ → Type 0
-Light ring = (k : ℕ) → 256 ≤ k → times k ring ≡ 0
+Light weights = (k : ℕ) → 256 ≤ k → times k weights ≡ 0
+
+-- at most 1,000 weights, with room for as many, and their counts
+pub record Kept {A : Type 0} (weights : VecDeque ℕ A) (counts : List ℕ) : Type 0 where
+  pub roomy : 1000 ≤ deque_capacity weights
+  pub few : deque_len weights ≤ 1000
+  pub tells : Tells counts (deque_items weights)
+  pub light : Light (deque_items weights)
 
 -- the heaviest of these weights, or that there is none
 abbrev pub HeaviestIs : List ℕ → Option ℕ → Type 0

@@ -1,34 +1,43 @@
 //! A solved game to play on.
-ghost use Rattle.std.specs.Prelude.{◌≡◌, ◌<◌, true, length, IfSome};
+ghost use Rattle.std.specs.Prelude.{◌≡◌, ◌<◌, length, All, IfSome};
 ghost use Rattle.endless.specs.Games.{Game, Reads, whose, weight};
 ghost use Rattle.endless.specs.Graph.{moves};
 ghost use Rattle.endless.specs.Says.{side, goes};
 ghost use Rattle.endless.specs.Sides.{number};
-ghost use Rattle.playing.specs.Boards.{Answered, Stands};
+ghost use Rattle.playing.specs.Boards.{Answered};
 
 use endless::answer::PlaceId;
 use endless::graph::Places;
 use endless::side::Side;
-use endless::{Solved, answer, is_game};
+use endless::{answer, is_game};
+use std::marker::Model;
 
-/// Solves the game that these words are: whether it is done. The other words
-/// are lent: two for each place for `answer`, and for `work` what the solver
-/// asks for, which can be let go afterwards.
-pub fn solve(words: &[u32], answer: &mut [u32], work: &mut [u32]) -> bool
-    ensures { result ≡ true → (g : Game) × (Reads words.now g × Answered g answer.new) }
+/// Solves the game that these words are: the answer, in the words that are
+/// lent for it. The other words are lent: two for each place for `answer`, and
+/// for `work` what the solver asks for, which can be let go afterwards. `None`
+/// where the words are no game, or too few are lent.
+pub fn solve<'a>(words: &[u32], answer: &'a mut [u32], work: &mut [u32]) -> Option<&'a [u32]>
+    ensures { IfSome result (λ o. (g : Game) × (Reads words.now g × Answered g o.now)) }
 {
-    match endless::solve(words, answer, work) {
-        Solved::Done => true,
-        Solved::OutFull | Solved::NoGame | Solved::Few => false,
-    }
+    endless::solve(words, answer, work).ok()?;
+    Some(answer)
 }
 
 /// A game and its answer, with where each place's words start, so that what
 /// is asked of a place costs no more than its moves.
-#[derive(Clone, Copy)]
+#[derive(Drop)]
 pub struct Board<'a> {
     places: Places<'a>,
     answer: &'a [u32],
+}
+
+// Clauses see the game and the answer.
+impl<'a> Model for Board<'a> {
+    ghost use Rattle.playing.specs.Solutions.{Solution};
+
+    ghost Value = { Solution };
+
+    ghost view = { λ b. record { game = b.places; answer = b.answer.now } };
 }
 
 impl<'a> Board<'a> {
@@ -43,11 +52,9 @@ impl<'a> Board<'a> {
         low: &'a mut [u32],
         high: &'a mut [u32],
     ) -> Option<Board<'a>>
-        ensures { IfSome result (λ b. (g : Game) × (Reads words.now g × Stands b g)) }
+        ensures { IfSome result (λ b. Reads words.now b.game × Answered b.game b.answer) }
     {
-        if !solve(words, answer, work) {
-            return None;
-        }
+        let answer = solve(words, answer, work)?;
         Board::new(words, answer, low, high)
     }
 
@@ -61,7 +68,8 @@ impl<'a> Board<'a> {
         low: &'a mut [u32],
         high: &'a mut [u32],
     ) -> Option<Board<'a>>
-        ensures { IfSome result (λ b. ((g : Game) → Reads words.now g → Answered g answer.now → Stands b g)) }
+        ensures game { IfSome result (λ b. Reads words.now b.game) }
+        ensures answer { IfSome result (λ b. b.answer ≡ answer.now) }
     {
         if !is_game(words) {
             return None;
@@ -75,60 +83,53 @@ impl<'a> Board<'a> {
     }
 
     /// How many places there are.
-    pub fn len(self) -> u32
-        requires { (g : Game) × Stands self g }
-        ensures { (g : Game) → Stands self.entry g → result ≡ length g }
+    pub fn len(&self) -> u32
+        ensures { result ≡ length self.now.game }
     {
         self.places.len()
     }
 
     /// Whose move it is at a place.
-    pub fn whose(self, place: u32) -> Side
-        requires { (g : Game) × Stands self g × (place < length g) }
-        ensures { (g : Game) → Stands self.entry g → place < length g → number result ≡ whose g place }
+    pub fn whose(&self, place: u32) -> Side
+        requires { place < length self.now.game }
+        ensures { number result ≡ whose self.now.game place }
     {
-        match Side::from_word(self.places.head(place).whose) {
-            Some(side) => side,
-            None => unreachable(),
-        }
+        self.places.head(place).whose
     }
 
     /// The weight of a place.
-    pub fn weight(self, place: u32) -> u8
-        requires { (g : Game) × Stands self g × (place < length g) }
-        ensures { (g : Game) → Stands self.entry g → place < length g → result ≡ weight g place }
+    pub fn weight(&self, place: u32) -> u8
+        requires { place < length self.now.game }
+        ensures { result ≡ weight self.now.game place }
     {
         self.places.head(place).weight as u8
     }
 
     /// Where one may move from a place: at least one place.
-    pub fn moves(self, place: u32) -> &'a [u32]
-        requires { (g : Game) × Stands self g × (place < length g) }
-        ensures are { (g : Game) → Stands self.entry g → place < length g → result.now ≡ moves g place }
+    pub fn moves(&self, place: u32) -> &'a [u32]
+        requires { place < length self.now.game }
+        ensures are { result.now ≡ moves self.now.game place }
         ensures some { 0 < length result.now }
+        ensures inside { All (λ m. m < length self.now.game) result.now }
     {
         self.places.moves(place)
     }
 
     /// The side that wins a place.
-    pub fn winner(self, place: u32) -> Side
-        requires { (g : Game) × Stands self g × (place < length g) }
-        ensures { number result ≡ side self.entry.answer.now place }
+    pub fn winner(&self, place: u32) -> Side
+        requires answered { Answered self.now.game self.now.answer }
+        requires within { place < length self.now.game }
+        ensures { number result ≡ side self.now.answer place }
     {
-        match answer::won_by(self.answer, PlaceId(place)) {
-            Some(winner) => winner.0,
-            None => unreachable(),
-        }
+        answer::won_by(self.answer, PlaceId(place)).unwrap().0
     }
 
     /// Where the winner's plan goes from a place.
-    pub fn plan(self, place: u32) -> u32
-        requires { (g : Game) × Stands self g × (place < length g) }
-        ensures { result ≡ goes self.entry.answer.now place }
+    pub fn plan(&self, place: u32) -> u32
+        requires answered { Answered self.now.game self.now.answer }
+        requires within { place < length self.now.game }
+        ensures { result ≡ goes self.now.answer place }
     {
-        match answer::goes_to(self.answer, PlaceId(place)) {
-            Some(to) => to.0,
-            None => unreachable(),
-        }
+        answer::goes_to(self.answer, PlaceId(place)).unwrap().0
     }
 }

@@ -1,10 +1,9 @@
 //! The steps of a play: one side goes by the answer's plan, the other where
 //! it likes.
-ghost use Rattle.std.specs.Prelude.{◌≡◌, ◌<◌, true, ◌↔◌, length};
-ghost use Rattle.endless.specs.Games.{Game};
+ghost use Rattle.std.specs.Prelude.{◌<◌, ◌↔◌, length, IsTrue};
 ghost use Rattle.endless.specs.Graph.{moves};
 ghost use Rattle.endless.specs.Sides.{number};
-ghost use Rattle.playing.specs.Boards.{Stands, Stepped, ByPlanHere};
+ghost use Rattle.playing.specs.Boards.{Answered, Stepped, ByPlanHere};
 
 use crate::board::Board;
 use endless::side::Side;
@@ -12,9 +11,11 @@ use endless::side::Side;
 /// The place that comes after `place` where `side` goes by the plan: at its
 /// own places that it wins the plan's move, elsewhere the move with the index
 /// `choice`, counted from 0.
-pub fn step(board: Board, side: Side, place: u32, choice: usize) -> u32
-    requires { (g : Game) × Stands board g × (place < length g) × (choice < length (moves g place)) }
-    ensures { (g : Game) → Stands board.entry g → place < length g → choice < length (moves g place) → Stepped g board.entry.answer.now (number side) place choice result }
+pub fn step(board: &Board, side: Side, place: u32, choice: usize) -> u32
+    requires answered { Answered board.now.game board.now.answer }
+    requires within { place < length board.now.game }
+    requires listed { choice < length (moves board.now.game place) }
+    ensures { Stepped board.now.game board.now.answer (number side) place choice result }
 {
     if goes_by_plan(board, side, place) {
         board.plan(place)
@@ -25,13 +26,10 @@ pub fn step(board: Board, side: Side, place: u32, choice: usize) -> u32
 
 /// Whether the plan says where `side` goes from `place`: it is to move there,
 /// and wins there.
-pub fn goes_by_plan(board: Board, side: Side, place: u32) -> bool
-    requires { (g : Game) × Stands board g × (place < length g) }
-    ensures { (g : Game) → Stands board.entry g → place < length g → (result ≡ true) ↔ ByPlanHere g board.entry.answer.now (number side) place }
+pub fn goes_by_plan(board: &Board, side: Side, place: u32) -> bool
+    requires answered { Answered board.now.game board.now.answer }
+    requires within { place < length board.now.game }
+    ensures { IsTrue result ↔ ByPlanHere board.now.game board.now.answer (number side) place }
 {
-    let own = side.to_word();
-    if board.whose(place).to_word() != own {
-        return false;
-    }
-    board.winner(place).to_word() == own
+    board.whose(place) == side && board.winner(place) == side
 }

@@ -31,6 +31,6 @@ pub struct Trail {
     choices: VecDeque<Choice>,
     made: u64,
     ghost few: { deque_len weights ≤ 65536 },
-    ghost holds: { Holds window.ring.items window.oldest weights.items },
+    ghost holds: { Holds window weights.items },
     ghost limited: { deque_len choices ≤ 1000 },
 }

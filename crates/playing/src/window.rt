@@ -1,49 +1,52 @@
 //! The weights of the last 1,000 places that were come to.
-ghost use Rattle.std.specs.Prelude.{◌≡◌, ℕ, ◌+◌, ◌<◌, ◌≤◌, List, [], ◌∷◌, ◌++◌, length, IfOk, vec_capacity};
-ghost use Rattle.playing.specs.Windows.{Tells, Light, Holds, HeaviestIs, latest, around};
+ghost use Rattle.std.specs.Prelude.{◌≡◌, ◌<◌, ◌≤◌, List, [], ◌∷◌, ◌++◌, length, drop, IfOk};
+ghost use Rattle.playing.specs.Windows.{Holds, HeaviestIs};
 
-use crate::counts;
+use crate::counts::Counts;
 use std::alloc::{AllocError, Global};
+use std::collections::VecDeque;
+use std::marker::Model;
 
 /// How many weights a window holds at most.
 pub const MOST: usize = 1000;
 
-/// The last 1,000 weights, or all where there are fewer: a ring, and how
-/// often each of the 256 weights stands in it, so that the heaviest is found
-/// without going through the ring.
+/// The last 1,000 weights, or all where there are fewer, and how often each
+/// of the 256 weights stands among them, so that the heaviest is found
+/// without going through them.
 #[derive(Drop)]
 pub struct Window {
-    ring: Vec<u8>,
-    oldest: usize,
-    counts: Vec<u32>,
-    ghost roomy: { 1000 ≤ vec_capacity ring },
-    ghost long: { length ring.items ≤ 1000 },
-    ghost within: { oldest < 1000 },
-    ghost growing: { (length ring.items < 1000 → oldest ≡ 0) },
-    ghost kinds: { length counts.items ≡ 256 },
-    ghost tells: { Tells counts.items ring.items },
-    ghost light: { Light ring.items },
+    weights: VecDeque<u8>,
+    counts: Counts,
+}
+
+// Clauses see the weights, the oldest first.
+impl Model for Window {
+    ghost use Rattle.std.specs.Prelude.{ℕ, List};
+    ghost use Rattle.playing.specs.Windows.{Kept};
+
+    ghost Value = { List ℕ };
+
+    ghost view = { λ w. w.weights.items };
+
+    ghost invariant = { λ w. Kept w.weights w.counts.times };
 }
 
 impl Window {
     /// A window to which no weight has come yet.
     pub fn new(heap: Global) -> Result<Window, AllocError>
-        ensures { IfOk result (λ w. Holds w.ring.items w.oldest []) }
+        ensures { IfOk result (λ w. w ≡ []) }
     {
-        let ring = Vec::with_capacity(heap, MOST)?;
-        let counts = vec![in heap; 0; counts::KINDS]?;
         Ok(Window {
-            ring,
-            oldest: 0,
-            counts,
+            weights: VecDeque::with_capacity(heap, MOST)?,
+            counts: Counts::new(),
         })
     }
 
     /// A weight comes: where 1,000 are there, the oldest goes.
     pub fn push(&mut self, weight: u8)
-        ensures { (all : List ℕ) → Holds self.old.ring.items self.old.oldest all → Holds self.new.ring.items self.new.oldest (all ++ weight ∷ []) }
+        ensures { Holds self.new (self.old ++ weight ∷ []) }
     {
-        if self.ring.len() < MOST {
+        if self.weights.len() < MOST {
             self.add(weight);
         } else {
             self.exchange(weight);
@@ -52,8 +55,10 @@ impl Window {
 
     /// These weights come, one after another.
     pub fn push_all(&mut self, weights: &[u8])
-        ensures { (all : List ℕ) → Holds self.old.ring.items self.old.oldest all → Holds self.new.ring.items self.new.oldest (all ++ weights.now) }
+        ensures { Holds self.new (self.old ++ weights.now) }
     {
+        // Also where none comes, it holds 1,000 weights at most.
+        let _ = &self.weights;
         for weight in weights {
             self.push(*weight);
         }
@@ -61,47 +66,37 @@ impl Window {
 
     /// A weight comes while fewer than 1,000 are there.
     fn add(&mut self, weight: u8)
-        requires { length self.old.ring.items < 1000 }
-        ensures { (all : List ℕ) → Holds self.old.ring.items self.old.oldest all → Holds self.new.ring.items self.new.oldest (all ++ weight ∷ []) }
+        requires { length self.old < 1000 }
+        ensures { self.new ≡ self.old ++ weight ∷ [] }
     {
-        self.ring.push_reserved(weight);
-        counts::add(self.counts.as_mut_slice(), weight);
+        self.counts.add(weight);
+        self.weights.push_back_reserved(weight);
     }
 
     /// A weight comes in the place of the oldest.
     fn exchange(&mut self, weight: u8)
-        requires { 1000 ≤ length self.old.ring.items }
-        ensures { (all : List ℕ) → Holds self.old.ring.items self.old.oldest all → Holds self.new.ring.items self.new.oldest (all ++ weight ∷ []) }
+        requires { 1000 ≤ length self.old }
+        ensures { self.new ≡ drop 1 self.old ++ weight ∷ [] }
     {
-        let old = self.ring[self.oldest];
-        counts::exchange(self.counts.as_mut_slice(), old, weight);
-        self.ring[self.oldest] = weight;
-        self.oldest = behind(self.oldest);
+        let oldest = self.weights.pop_front().unwrap();
+        self.counts.exchange(oldest, weight);
+        self.weights.push_back_reserved(weight);
     }
 
     /// How many weights it holds: 1,000, or all that came where these are
     /// fewer.
     pub fn len(&self) -> usize
-        ensures { (all : List ℕ) → Holds self.now.ring.items self.now.oldest all → result ≡ length (latest 1000 all) }
+        ensures long { result ≡ length self.now }
+        ensures within { result ≤ 1000 }
     {
-        self.ring.len()
+        self.weights.len()
     }
 
     /// The heaviest of the last 1,000 weights that came, or of all where
     /// these are fewer.
     pub fn heaviest(&self) -> Option<u8>
-        ensures { (all : List ℕ) → Holds self.now.ring.items self.now.oldest all → HeaviestIs (latest 1000 all) result }
+        ensures { HeaviestIs self.now result }
     {
-        counts::greatest(self.counts.as_slice())
+        self.counts.greatest()
     }
-}
-
-/// The next index of a ring of 1,000.
-fn behind(at: usize) -> usize
-    requires { at < 1000 }
-    ensures on { at + 1 < 1000 → result ≡ at + 1 }
-    ensures back { 1000 ≤ at + 1 → result ≡ 0 }
-    ensures within { result < 1000 }
-{
-    if at + 1 < MOST { at + 1 } else { 0 }
 }

@@ -1,5 +1,5 @@
 //! Why the program ends before the play does.
-use drawing::refusal::Refusal;
+use drawing::{Refusal, Unread};
 use std::alloc::AllocError;
 use std::{fmt, io};
 
@@ -22,6 +22,17 @@ pub enum Fault {
 impl From<AllocError> for Fault {
     fn from(_error: AllocError) -> Fault {
         Fault::Memory
+    }
+}
+
+impl From<Unread> for Fault {
+    fn from(why: Unread) -> Fault {
+        match why {
+            Unread::Io(error) => Fault::Files(error),
+            Unread::NotText => Fault::NotText,
+            Unread::Refused { refusal, .. } => Fault::Refused(refusal),
+            Unread::Memory => Fault::Memory,
+        }
     }
 }
 

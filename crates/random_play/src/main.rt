@@ -5,7 +5,6 @@
 mod fault;
 mod input;
 mod play;
-mod random;
 mod report;
 
 use fault::Fault;
@@ -29,8 +28,6 @@ fn run(rt: &HostRuntime) -> Result<(), Fault> {
     let (Some(file), Some(count)) = (args.next(), args.next()) else {
         return Err(Fault::Usage);
     };
-    match count.as_str().parse::<u64>() {
-        Ok(count) => play::run(rt, file.as_str(), count),
-        Err(_) => Err(Fault::Usage),
-    }
+    let count = count.as_str().parse().map_err(|_| Fault::Usage)?;
+    play::run(rt, file.as_str(), count)
 }

@@ -8,25 +8,25 @@
 //! 1,000 places it says nothing: a window need not be a round, and what weighs
 //! most in it may be of either kind. So the windows are counted, by the kind of
 //! their heaviest weight, and no number of either kind would be a fault.
-ghost use Rattle.std.specs.Prelude.{◌≡◌, ◌<◌, true, length, IfOk};
+ghost use Rattle.std.specs.Prelude.{◌<◌, length, IfSome, IfOk};
 ghost use Rattle.endless.specs.Games.{Game, Reads};
 ghost use Rattle.endless.specs.Graph.{moves};
-ghost use Rattle.endless.specs.Sides.{number};
-ghost use Rattle.playing.specs.Boards.{Answered, Stands, Stepped};
+ghost use Rattle.playing.specs.Boards.{Answered};
 
 use crate::fault::Fault;
-use crate::random::Random;
 use crate::{input, report};
+use draws::Random;
 use endless::side::Side;
 use playing::board::solve;
 use playing::{Board, Trail, steps};
 use std::alloc::{AllocError, Global};
+use std::marker::Model;
 
 /// Where the generator starts.
 const START: u64 = 3;
 
 /// What came in a play.
-#[derive(Clone, Copy)]
+#[derive(Clone, Copy, Default)]
 pub struct Tally {
     /// Moves by the plan.
     pub planned: u64,
@@ -38,6 +38,57 @@ pub struct Tally {
     pub other: u64,
 }
 
+impl Tally {
+    /// One more move, from this place, and one more window.
+    fn count(&mut self, board: &Board, side: Side, from: u32, trail: &Trail)
+        requires { from < length board.now.game }
+    {
+        if board.whose(from) == side {
+            one_more(&mut self.planned);
+        } else {
+            one_more(&mut self.free);
+            if board.moves(from).len() > 1 {
+                one_more(&mut self.chosen);
+            }
+        }
+        if let Some(weight) = trail.heaviest() {
+            if Side::of_weight(u32::from(weight)) == side {
+                one_more(&mut self.own);
+            } else {
+                one_more(&mut self.other);
+            }
+        }
+    }
+}
+
+fn one_more(count: &mut u64) {
+    *count = count.saturating_add(1);
+}
+
+/// A play: who goes by the plan, where it stands, and what came.
+#[derive(Drop)]
+pub struct Play<'a> {
+    pub board: Board<'a>,
+    pub side: Side,
+    pub place: u32,
+    pub trail: Trail,
+    pub tally: Tally,
+    random: Random<usize, 33>,
+}
+
+// Clauses see the game and the answer.
+impl<'a> Model for Play<'a> {
+    ghost use Rattle.std.specs.Prelude.{◌<◌, length};
+    ghost use Rattle.playing.specs.Boards.{Answered};
+    ghost use Rattle.playing.specs.Solutions.{Solution};
+
+    ghost Value = { Solution };
+
+    ghost view = { λ p. p.board };
+
+    ghost invariant = { λ p. Answered p.board.game p.board.answer × (p.place < length p.board.game) };
+}
+
 /// Reads the drawing, solves it, and plays it from its first place.
 pub(crate) fn run(rt: &HostRuntime, file: &str, count: u64) -> Result<(), Fault> {
     let heap = rt.alloc();
@@ -45,10 +96,9 @@ pub(crate) fn run(rt: &HostRuntime, file: &str, count: u64) -> Result<(), Fault>
     let words = drawing.words.as_slice();
     let places = drawing.names.len();
     let mut answer = vec![in heap; 0; places.saturating_mul(2)]?;
-    let answer = answer.as_mut_slice();
-    if !solved(heap, words, answer)? {
+    let Some(answer) = solved(heap, words, answer.as_mut_slice())? else {
         return Err(Fault::NoGame);
-    }
+    };
     let mut low = vec![in heap; 0; places]?;
     let mut high = vec![in heap; 0; places]?;
     let Some(board) = Board::new(words, answer, low.as_mut_slice(), high.as_mut_slice()) else {
@@ -57,78 +107,71 @@ pub(crate) fn run(rt: &HostRuntime, file: &str, count: u64) -> Result<(), Fault>
     if board.len() == 0 {
         return Err(Fault::NoGame);
     }
-    report::start(rt, file, board)?;
-    play(rt, board, count)
+    report::start(rt, file, &board)?;
+    let mut play = Play::new(heap, board)?;
+    for _ in 0..count {
+        play.go()?;
+    }
+    report::end(rt, &play)
 }
 
 /// Solves the game, with lent words that are gone again afterwards.
-fn solved(heap: Global, words: &[u32], answer: &mut [u32]) -> Result<bool, AllocError>
-    ensures { IfOk result (λ done. done ≡ true → (g : Game) × (Reads words.now g × Answered g answer.new)) }
+fn solved<'a>(
+    heap: Global,
+    words: &[u32],
+    answer: &'a mut [u32],
+) -> Result<Option<&'a [u32]>, AllocError>
+    ensures { IfOk result (λ o. IfSome o (λ a. (g : Game) × (Reads words.now g × Answered g a.now))) }
 {
     let lent = words.len().saturating_mul(4).saturating_add(65536);
     let mut work = vec![in heap; 0; lent]?;
     Ok(solve(words, answer, work.as_mut_slice()))
 }
 
-/// So many moves from the first place.
-fn play(rt: &HostRuntime, board: Board, count: u64) -> Result<(), Fault>
-    requires { (g : Game) × Stands board g × (0 < length g) }
-{
-    let side = board.winner(0);
-    let mut random = Random::new(START);
-    let mut trail = Trail::start(rt.alloc(), board.weight(0))?;
-    let mut tally = Tally {
-        planned: 0,
-        free: 0,
-        chosen: 0,
-        own: 0,
-        other: 0,
-    };
-    let mut place = 0;
-    for _ in 0..count {
-        let to = go(board, side, place, &mut random)?;
-        trail.come(board.weight(to))?;
-        tally = counted(tally, board, side, place, &trail);
-        place = to;
+impl<'a> Play<'a> {
+    /// A play that stands at the first place; the side that wins there goes by
+    /// the plan.
+    fn new(heap: Global, board: Board<'a>) -> Result<Play<'a>, AllocError>
+        requires answered { Answered board.game board.answer }
+        requires some { 0 < length board.game }
+    {
+        let side = board.winner(0);
+        let trail = Trail::start(heap, board.weight(0))?;
+        Ok(Play {
+            board,
+            side,
+            place: 0,
+            trail,
+            tally: Tally::default(),
+            random: Random::new(START),
+        })
     }
-    report::end(rt, board, place, &trail, tally)
+
+    /// Makes a move, at random where the plan does not say which, and counts it.
+    fn go(&mut self) -> Result<(), Fault> {
+        let from = self.place;
+        let board = &self.board;
+        let choice = self.random.below(board.moves(from).len());
+        let to = step(board, self.side, from, choice)?;
+        let weight = board.weight(to);
+        self.trail.come(weight)?;
+        self.tally.count(board, self.side, from, &self.trail);
+        self.place = to;
+        Ok(())
+    }
 }
 
-/// A move, at random where the plan does not say which, and whether it is as
-/// it should be.
-fn go(board: Board, side: Side, place: u32, random: &mut Random) -> Result<u32, Fault>
-    requires { (g : Game) × Stands board g × (place < length g) }
-    ensures { IfOk result (λ to. (g : Game) → Stands board.entry g → place < length g → to < length g) }
+/// Where a move goes, and whether it is as it should be.
+fn step(board: &Board, side: Side, from: u32, choice: usize) -> Result<u32, Fault>
+    requires answered { Answered board.now.game board.now.answer }
+    requires within { from < length board.now.game }
+    requires listed { choice < length (moves board.now.game from) }
+    ensures { IfOk result (λ to. to < length board.now.game) }
 {
-    let choice = random.below(board.moves(place).len());
-    let to = steps::step(board, side, place, choice);
-    let own = side.to_word();
-    let planned = board.whose(place).to_word() != own || to == board.plan(place);
-    if !planned || board.winner(to).to_word() != own {
-        return Err(Fault::Wrong { from: place, to });
+    let to = steps::step(board, side, from, choice);
+    let planned = board.whose(from) != side || to == board.plan(from);
+    if !planned || board.winner(to) != side {
+        return Err(Fault::Wrong { from, to });
     }
     Ok(to)
-}
-
-/// One more move, from this place, and one more window.
-fn counted(tally: Tally, board: Board, side: Side, from: u32, trail: &Trail) -> Tally
-    requires { (g : Game) × Stands board g × (from < length g) }
-{
-    let mut tally = tally;
-    if board.whose(from).to_word() == side.to_word() {
-        tally.planned = tally.planned.saturating_add(1);
-    } else {
-        tally.free = tally.free.saturating_add(1);
-        if board.moves(from).len() > 1 {
-            tally.chosen = tally.chosen.saturating_add(1);
-        }
-    }
-    if let Some(weight) = trail.heaviest() {
-        if Side::of_weight(u32::from(weight)).to_word() == side.to_word() {
-            tally.own = tally.own.saturating_add(1);
-        } else {
-            tally.other = tally.other.saturating_add(1);
-        }
-    }
-    tally
 }

@@ -1,16 +1,16 @@
 //! What is told of a play.
 ghost use Rattle.std.specs.Prelude.{◌<◌, length};
-ghost use Rattle.endless.specs.Games.{Game};
-ghost use Rattle.playing.specs.Boards.{Stands};
+ghost use Rattle.playing.specs.Boards.{Answered};
 
 use crate::fault::Fault;
-use crate::play::Tally;
+use crate::play::{Play, Tally};
 use endless::side::Side;
-use playing::{Board, Trail};
+use playing::Board;
 use std::io;
 
-pub(crate) fn start(rt: &HostRuntime, file: &str, board: Board) -> Result<(), Fault>
-    requires { (g : Game) × Stands board g × (0 < length g) }
+pub(crate) fn start(rt: &HostRuntime, file: &str, board: &Board) -> Result<(), Fault>
+    requires answered { Answered board.now.game board.now.answer }
+    requires some { 0 < length board.now.game }
 {
     let many = board.len();
     let side = board.winner(0).to_word();
@@ -20,33 +20,26 @@ pub(crate) fn start(rt: &HostRuntime, file: &str, board: Board) -> Result<(), Fa
     Ok(())
 }
 
-pub(crate) fn end(
-    rt: &HostRuntime,
-    board: Board,
-    place: u32,
-    trail: &Trail,
-    tally: Tally,
-) -> Result<(), Fault>
-    requires { (g : Game) × Stands board g × (place < length g) }
-{
-    let made = trail.made();
+pub(crate) fn end(rt: &HostRuntime, play: &Play) -> Result<(), Fault> {
+    let made = play.trail.made();
     let Tally {
         planned,
         free,
         chosen,
         own,
         other,
-    } = tally;
+    } = play.tally;
     println!(rt; "moves made: {made}; each within the winner's places")?;
     println!(rt; "by the plan: {planned}; by the other side: {free}, {chosen} of them a choice")?;
     println!(rt;
         "windows with a heaviest weight of the winner's kind: {own}, of the other kind: {other}"
     )?;
-    if let Some(weight) = trail.heaviest() {
+    if let Some(weight) = play.trail.heaviest() {
         let kind = Side::of_weight(u32::from(weight)).to_word();
         println!(rt; "heaviest of the last 1,000 places: {weight}, of side {kind}'s kind")?;
     }
-    let winner = board.winner(place).to_word();
+    let place = play.place;
+    let winner = play.board.winner(place).to_word();
     println!(rt; "verdict at place {place}: side {winner} wins")?;
     Ok(())
 }

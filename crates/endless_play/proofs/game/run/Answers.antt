@@ -1,6 +1,5 @@
+use Rattle.playing.proofs.Boards.{answered_board}
 use Rattle.endless_play.proofs.game.run.Goals as goal
 
 pub start-requires : goal.start-requires
-start-requires c =
-    let done = c.in_ok-solved.ensures c.if-not-branch.false in
-    (done.0, c.in-Some.ensures done.0 done.1.0 done.1.1)
+start-requires c = answered_board c.in-Some-new.board c.in-Some-new.ensures.game c.in-Some-new.ensures.answer (rw c.in-Some.is at c.in_ok-answer-2.ensures)

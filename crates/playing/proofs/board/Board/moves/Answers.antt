@@ -1,9 +1,15 @@
-use Rattle.std.proofs.Common.{◌<◌, length, sym, subst}
-use Rattle.playing.proofs.Boards.{some_moves}
+use Rattle.std.specs.Prelude.{All}
+use Rattle.std.proofs.Common.{◌≡◌, ◌<◌, length, ap, sym, subst, arith}
+use Rattle.endless.specs.Graph.{moves}
+use Rattle.playing.proofs.Boards.{some_moves, moves_within}
 use Rattle.playing.proofs.board.Board.moves.Goals as goal
 
-pub returns : goal.returns
-returns c = record {
-  are = λ g stands h. c.moves.ensures g h stands.shows;
-  some = subst (λ l. 0 < length l) (sym (c.moves.ensures c.requires.0 c.requires.2 c.requires.1.shows)) (some_moves c.requires.1.shows.reads c.args.place c.requires.2);
-}
+pub returns-clause-some : goal.returns-clause-some
+returns-clause-some c =
+    subst (λ l. 0 < length l) (sym c.moves.ensures.moves)
+    (some_moves c.moves.ensures.playable c.args.place (omega (arith, ap (λ b. length b.game) c.self.view_is, c.requires)))
+
+pub returns-clause-inside : goal.returns-clause-inside
+returns-clause-inside c =
+    subst (All (λ m. m < length c.args.self.now.game)) (sym c.moves.ensures.moves)
+    (subst (λ g. All (λ m. m < length g) (moves c.self.inside.places c.args.place)) (ap (λ b. b.game) c.self.view_is) (moves_within c.moves.ensures.playable c.args.place))

@@ -1,9 +1,10 @@
-use Rattle.std.proofs.Common.{vec_items, subst}
-use Rattle.playing.specs.Windows.{GreatestIs}
-use Rattle.playing.proofs.Rings.{heaviest_held}
+use Rattle.std.proofs.Common.{subst, deque_items}
+use Rattle.playing.specs.Windows.{HeaviestIs}
+use Rattle.playing.proofs.Windows.{heaviest_told}
 use Rattle.playing.proofs.window.Window.heaviest.Goals as goal
 
 pub returns : goal.returns
 returns c =
-    heaviest_held (vec_items c.args.self.now.ring) (vec_items c.args.self.now.counts) c.args.self.now.oldest
-    c.args.self.now.kinds c.args.self.now.tells c.args.self.now.light c.greatest.result (subst (λ l. GreatestIs l c.greatest.result) c.as_slice.ensures.value c.greatest.ensures)
+    let w = c.self.inside in
+    subst (λ l. HeaviestIs l c.greatest.result) c.self.view_is
+    (heaviest_told (deque_items w.weights) w.counts.times w.counts.kinds c.self.invariant.tells c.self.invariant.light c.greatest.result c.greatest.ensures)

@@ -1,6 +1,7 @@
-use Rattle.std.proofs.Common.{vec_items}
-use Rattle.playing.proofs.Rings.{Coming}
+use Rattle.std.proofs.Common.{◌≡◌, ◌++◌, take}
+use Rattle.playing.specs.Windows.{latest}
 use Rattle.playing.proofs.window.Window.push_all.Given as goal
 
+-- the first of the weights have come
 abbrev pub invariant-loop-weight : goal.invariant-loop-weight
-invariant-loop-weight l = Coming (vec_items l.initial.self.ring) l.initial.self.oldest l.weights (vec_items l.self.ring) l.self.oldest l.weight-index
+invariant-loop-weight l = l.self ≡ latest 1000 (l.initial.self ++ take l.weight-index l.weights)
