@@ -1,4 +1,8 @@
 //! A game is tried: solved, and the answer compared.
+ghost use Rattle.std.specs.Prelude.{IfNone, IfOk};
+ghost use Rattle.allplans.specs.Checked.{RightAnswer};
+ghost use Rattle.allplans.specs.Claims.{plan, winners};
+
 use crate::answer::attractor;
 use allplans::checker::{Answer, Claim, Refusal};
 use allplans::fault::Fault;
@@ -41,7 +45,7 @@ impl Tally {
     }
 
     /// What came out of both.
-    pub fn and(self, other: Tally) -> Tally {
+    pub(crate) fn and(self, other: Tally) -> Tally {
         Tally {
             games: self.games.saturating_add(other.games),
             places: self.places.saturating_add(other.places),
@@ -168,8 +172,10 @@ impl Desk {
 }
 
 /// What is wrong with an answer by trying all plans of both sides, and by
-/// rounds.
-pub fn by_all_plans(heap: Global, game: &Game, answer: &Answer) -> Result<Option<Wrong>, Fault> {
+/// rounds: where they find nothing, it is right.
+pub fn by_all_plans(heap: Global, game: &Game, answer: &Answer) -> Result<Option<Wrong>, Fault>
+    ensures { IfOk result (λ wrong. IfNone wrong (RightAnswer game.now.places.items (winners answer.now.claims.items) (plan answer.now.claims.items))) }
+{
     let winners = plans::winners(heap, game)?;
     match first_other(winners.as_slice(), answer.claims.as_slice()) {
         Some(place) => Ok(Some(Wrong::Winner(place))),
@@ -177,8 +183,11 @@ pub fn by_all_plans(heap: Global, game: &Game, answer: &Answer) -> Result<Option
     }
 }
 
-/// What is wrong with an answer by rounds alone.
-pub fn by_rounds(heap: Global, game: &Game, answer: &Answer) -> Result<Option<Wrong>, Fault> {
+/// What is wrong with an answer by rounds alone: where they find nothing, it
+/// is right.
+pub fn by_rounds(heap: Global, game: &Game, answer: &Answer) -> Result<Option<Wrong>, Fault>
+    ensures { IfOk result (λ wrong. IfNone wrong (RightAnswer game.now.places.items (winners answer.now.claims.items) (plan answer.now.claims.items))) }
+{
     match checker::check(heap, game, answer) {
         Ok(()) => Ok(None),
         Err(Refusal::Wrong(wrong)) => Ok(Some(Wrong::Checker(wrong))),
