@@ -1,15 +1,9 @@
 -- Reading the words of a game from the front: past i places, what is left are the words of the other places.
-use Rattle.std.proofs.Common.{◌≡◌, ℕ, zero, suc, ◌+◌, ◌-◌, ◌<◌, ◌≤◌, Bool, true, false, ◌&&◌, T, List, [], ◌∷◌, ◌++◌, length, get_or, take, drop, None, sym, refl, ap, ◌∙◌, add-one, arith}
+use Rattle.std.proofs.Common.{◌≡◌, ℕ, zero, suc, ◌+◌, ◌-◌, ◌<◌, ◌≤◌, Bool, true, false, ◌&&◌, T, List, [], ◌∷◌, ◌++◌, length, get_or, take, drop, sym, refl, ap, ◌∙◌, add-one, arith}
 use mathlib.Core.Option.{some}
 use Rattle.std.proofs.lemmas.List.{take_rest, drop-drop, drop_at, take_at, length-drop, length-append}
 use Rattle.endless.specs.Games.{Place, Game, Reads, nth, opt, row, whose, weight}
 use Rattle.endless.specs.Graph.{moves, Reading}
-use Rattle.endless.specs.Heads.{Begins, HeadIs}
-use Rattle.endless.specs.Sides.{number}
-use Rattle.endless.specs.declared.place.Head.{Head}
-use Rattle.endless.proofs.Among.{among_at}
-use Rattle.endless.proofs.Places.{side_below, weight_below, has_move}
-use Rattle.endless.proofs.Readers.{Behind, three_front}
 
 -- ---- the parts of a conjunction
 
@@ -87,16 +81,20 @@ here s g i at h r = build (there g i h)
 pub here_before : (s : List ℕ) (g : Game) → Reads s g → (i at : ℕ) → i < get_or s 0 0 → Reading s g i at → Here s g i at
 here_before s g reads i at h r = here s g i at (omega (arith, places_are s g reads)) r
 
--- a head stands there, and it is the place's own
-module _ (s : List ℕ) (g : Game) (i at : ℕ) (h : i < length g) (r : Reading s g i at) where
-  pub some_head : {words : List ℕ} → Reads words g → HeadIs (Behind s at) None → ⊥
-  some_head reads headless =
-      let now = here s g i at h r in
-      let m = has_move reads i h in
-      headless _ _ _ _ (three_front (Behind s at) (omega (arith, now.long))) (omega (arith, now.owner, side_below reads i))
-      (omega (arith, now.weighs, weight_below reads i)) (omega (arith, now.many, (among_at m.0 (moves g i) m.1).1))
+-- ---- the words from a place on
 
-  pub own_head : (head : Head) → Begins (Behind s at) head → (number head.whose ≡ whose g i) × (head.weight ≡ weight g i) × (head.moves ≡ length (moves g i))
-  own_head head b =
-      let now = here s g i at h r in
-      (sym (ap (λ l. get_or l 0 0) b.is) ∙ now.owner, sym (ap (λ l. get_or l 1 0) b.is) ∙ now.weighs, sym (ap (λ l. get_or l 2 0) b.is) ∙ now.many)
+module _ (g : Game) (n : ℕ) (h : n < length g) where
+  pub front_owner : get_or (row (drop n g)) 0 0 ≡ whose g n
+  front_owner = let t = there g n h in ap (λ l. get_or (row l) 0 0) t.rest ∙ sym (ap (λ o. opt o 0 (λ p. p.whose)) t.is)
+
+  pub front_weighs : get_or (row (drop n g)) 1 0 ≡ weight g n
+  front_weighs = let t = there g n h in ap (λ l. get_or (row l) 1 0) t.rest ∙ sym (ap (λ o. opt o 0 (λ p. p.weight)) t.is)
+
+  pub front_many : get_or (row (drop n g)) 2 0 ≡ length (moves g n)
+  front_many = let t = there g n h in ap (λ l. get_or (row l) 2 0) t.rest ∙ sym (ap (λ o. length (opt o [] (λ p. p.moves))) t.is)
+
+  pub front_long : 3 ≤ length (row (drop n g))
+  front_long = let t = there g n h in omega (arith, ap (λ l. length (row l)) t.rest)
+
+  pub front_place : (p : Place) × (ps : List Place) × (row (drop n g) ≡ row (p ∷ ps)) × (moves g n ≡ p.moves)
+  front_place = let t = there g n h in (t.p, drop (suc n) g, ap row t.rest, ap (λ o. opt o [] (λ p. p.moves)) t.is)

@@ -1,6 +1,6 @@
 //! A game in words as a graph: where each place's words start, and which places may move to a place.
-ghost use Rattle.std.specs.Prelude.{◌≡◌, ℕ, suc, ◌+◌, ◌^◌, ◌<◌, ◌≤◌, List, length, ◌==◌, slice_index};
-ghost use Rattle.endless.specs.Games.{Game, Reads, whose, weight};
+ghost use Rattle.std.specs.Prelude.{◌≡◌, ℕ, suc, ◌+◌, ◌^◌, ◌<◌, ◌≤◌, List, ◌∷◌, length, drop, ◌==◌, slice_index};
+ghost use Rattle.endless.specs.Games.{Place, Game, Reads, row, whose, weight};
 ghost use Rattle.endless.specs.Graph.{positions, moves, Reading, Placed, Preds, times, upto, Filling, Room, Counts, Entered, entering, edges, Ready, Listed};
 ghost use Rattle.endless.specs.Sides.{number};
 ghost use Rattle.endless.specs.View.{Playable};
@@ -10,13 +10,12 @@ use crate::positions::{position, put};
 use crate::side::Side;
 use std::marker::Model;
 
-/// The moves of the place whose words start at `at`.
-fn moves_at(words: &[u32], at: usize) -> &[u32]
-    requires { (g : Game) × (i : ℕ) × (i < length g) × Reading words.now g i at }
-    ensures { (g : Game) (i : ℕ) → i < length g → Reading words.now g i at → result.now ≡ moves g i }
+/// The moves of the place that these words begin with.
+fn first_moves(words: &[u32]) -> &[u32]
+    requires { (p : Place) × (ps : List Place) × (words.now ≡ row (p ∷ ps)) }
+    ensures { (p : Place) (ps : List Place) → words.now ≡ row (p ∷ ps) → result.now ≡ p.moves }
 {
-    let head = HeadWords::read(&words[at..]);
-    &words[at + 3..at + 3 + head.moves as usize]
+    &words[3..3 + words[2] as usize]
 }
 
 /// Writes down where each place's words start.
@@ -29,7 +28,7 @@ pub fn find_starts(words: &[u32], low: &mut [u32], high: &mut [u32])
     let mut at = 1;
     for i in 0..words[0] as usize {
         put(low, high, i, at);
-        at += 3 + moves_at(words, at).len();
+        at += 3 + first_moves(&words[at..]).len();
     }
 }
 
@@ -81,11 +80,24 @@ impl<'a> Places<'a> {
         ensures moves { result.moves ≡ length (moves self.now n) }
         ensures playable { Playable self.now }
     {
-        let at = position(self.low, self.high, n as usize);
-        match Head::read(&self.words[at..]) {
-            Some(head) => head,
-            None => unreachable(),
+        let head = HeadWords::read(self.words_from(n));
+        Head {
+            whose: if head.whose == 0 {
+                Side::Even
+            } else {
+                Side::Odd
+            },
+            weight: head.weight,
+            moves: head.moves,
         }
+    }
+
+    /// The weight of a place.
+    pub fn weight(&self, n: u32) -> u32
+        requires { n < length self.now }
+        ensures { result ≡ weight self.now n }
+    {
+        self.words_from(n)[1]
     }
 
     /// Whether it is this side's move at a place.
@@ -93,7 +105,7 @@ impl<'a> Places<'a> {
         requires { n < length self.now }
         ensures { result ≡ (whose self.now n == number side) }
     {
-        self.head(n).whose.to_word() == side.to_word()
+        self.words_from(n)[0] == side.to_word()
     }
 
     /// The moves of a place.
@@ -102,7 +114,17 @@ impl<'a> Places<'a> {
         ensures moves { result.now ≡ moves self.now n }
         ensures playable { Playable self.now }
     {
-        moves_at(self.words, position(self.low, self.high, n as usize))
+        first_moves(self.words_from(n))
+    }
+
+    /// The words of a place, and of those behind it.
+    fn words_from(&self, n: u32) -> &'a [u32]
+        requires { n < length self.now }
+        ensures are { result.now ≡ row (drop n self.now) }
+        ensures playable { Playable self.now }
+    {
+        let at = position(self.low, self.high, n as usize);
+        &self.words[at..]
     }
 }
 
@@ -167,6 +189,14 @@ impl<'a> Graph<'a> {
         ensures playable { Playable self.now }
     {
         self.places.head(n)
+    }
+
+    /// The weight of a place.
+    pub fn weight(&self, n: u32) -> u32
+        requires { n < length self.now }
+        ensures { result ≡ weight self.now n }
+    {
+        self.places.weight(n)
     }
 
     /// Whether it is this side's move at a place.

@@ -102,7 +102,7 @@ impl<'a> Board<'a> {
         requires { place < length self.now.game }
         ensures { result ≡ weight self.now.game place }
     {
-        self.places.head(place).weight as u8
+        self.places.weight(place) as u8
     }
 
     /// Where one may move from a place: at least one place.
