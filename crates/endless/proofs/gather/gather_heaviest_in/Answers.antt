@@ -17,8 +17,8 @@ loop-place-preserved c =
     let room = gathering_room k least in
     elim c.if-weight-heaviest.branch [
       | then-weight-heaviest t ↦ rw (t.left-is, t.queue-is, t.out-is, t.count-is)
-          (giving_take c.loop-place.invariant least c.weight.ensures t.if-weight-heaviest.true (omega arith) (omega (arith, c.requires.inside c.in-Some.place mine, c.requires.answers)) mine t.take_place.ensures)
-      | else-weight-heaviest t ↦ rw (t.left-is, t.queue-is, t.out-is, t.count-is) (giving_skip c.loop-place.invariant least c.weight.ensures t.if-weight-heaviest.false)
+          (giving_take c.loop-place.invariant least c.weight.ensures.weight t.if-weight-heaviest.true (omega arith) (omega (arith, c.requires.inside c.in-Some.place mine, c.requires.answers)) mine t.take_place.ensures)
+      | else-weight-heaviest t ↦ rw (t.left-is, t.queue-is, t.out-is, t.count-is) (giving_skip c.loop-place.invariant least c.weight.ensures.weight t.if-weight-heaviest.false)
     ]
 
 pub returns-clause-gathered : goal.returns-clause-gathered
