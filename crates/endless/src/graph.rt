@@ -5,7 +5,7 @@ ghost use Rattle.endless.specs.Graph.{positions, moves, Reading, Placed, Preds, 
 ghost use Rattle.endless.specs.Sides.{number};
 ghost use Rattle.endless.specs.View.{Playable};
 
-use crate::place::{Head, HeadWords};
+use crate::place::{Head, HeadWords, heads_of};
 use crate::positions::{Halves, halves, position};
 use crate::side::Side;
 use std::marker::Model;
@@ -25,9 +25,9 @@ pub fn find_starts(words: &[u32], starts: &mut [Halves])
     ensures { (g : Game) → Reads words.now g → Placed words.now g (positions starts.new) }
 {
     let mut at = 1;
-    for start in starts.iter_mut() {
-        *start = halves(at);
-        at += 3 + first_moves(&words[at..]).len();
+    for (i, head) in heads_of(words).enumerate() {
+        starts[i] = halves(at);
+        at += 3 + head.moves as usize;
     }
 }
 

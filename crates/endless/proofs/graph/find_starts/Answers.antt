@@ -1,37 +1,42 @@
-use Rattle.std.proofs.Common.{length, set, sym, ap, ◌∙◌, arith}
-use Rattle.std.proofs.lemmas.List.{take_rest, length-map}
+use Rattle.std.proofs.Common.{set, ap, ◌∙◌, subst, arith}
+use Rattle.std.proofs.lemmas.List.{length-map}
 use Rattle.endless.specs.Graph.{joined, positions}
+use Rattle.endless.specs.Heads.{heads_in}
 use Rattle.endless.proofs.PositionLaws.{positions_set}
-use Rattle.endless.proofs.Reading.{front_place}
-use Rattle.endless.proofs.Starts.{starting_start, starting_more, starting_all, place_left}
+use Rattle.endless.proofs.Starts.{Starting, starting_start, starting_index, starting_fits, starting_more, starting_all}
 use Rattle.endless.proofs.graph.find_starts.Goals as goal
 
-pub loop-start-init : goal.loop-start-init
-loop-start-init c = starting_start c.args.words.now (positions c.args.starts.now)
+pub loop-i-init : goal.loop-i-init
+loop-i-init c =
+    let made = c.into_iter-i-iterator.ensures.into_iter_gives in
+    starting_start c.args.words.now _ (positions c.args.starts.now) _
+    (λ g reads. ap (λ h. heads_in h.left h.words.now) (ap (λ e. e.iter) made ∙ c.enumerate-i-items.ensures.source) ∙ c.heads_of.ensures.are g reads)
+    (ap (λ e. e.count) made ∙ c.enumerate-i-items.ensures.count)
 
-pub first_moves-requires : goal.first_moves-requires
-first_moves-requires c =
-    let left = place_left c.args.words.now (positions c.loop-start.starts) c.loop-start.start-index c.loop-start.at c.loop-start.invariant (omega arith) in
-    let g = c.requires.game.0 in
-    let t = front_place g c.loop-start.start-index (left g c.requires.game.1) in
-    (t.0, t.1, take_rest _ c.loop-start.at ∙ (c.loop-start.invariant g c.requires.game.1).0.left ∙ t.2)
+pub offset_bounds-starts-i : goal.offset_bounds-starts-i
+offset_bounds-starts-i c =
+    let below = starting_index c.args.words.now _ _ _ _ c.loop-i.invariant c.in-Some.head _ c.in-Some.ensures.steps.0 c.requires.game.0 c.requires.game.1 in
+    omega (arith, c.in-Some.ensures.steps.1)
 
-pub slice_bounds-first_moves-start : goal.slice_bounds-first_moves-start
-slice_bounds-first_moves-start c = (c.loop-start.invariant c.requires.game.0 c.requires.game.1).0.bound
+pub bounds-starts-i : goal.bounds-starts-i
+bounds-starts-i c =
+    let below = starting_index c.args.words.now _ _ _ _ c.loop-i.invariant c.in-Some.head _ c.in-Some.ensures.steps.0 c.requires.game.0 c.requires.game.1 in
+    omega (arith, c.in-Some.ensures.steps.1)
 
-pub loop-start-preserved : goal.loop-start-preserved
-loop-start-preserved c =
-    let starts = positions c.loop-start.starts in
-    let before = c.loop-start-test.true in
-    let left = place_left c.args.words.now starts c.loop-start.start-index c.loop-start.at c.loop-start.invariant (omega arith) in
-    starting_more c.args.words.now starts c.loop-start.start-index c.loop-start.at c.loop-start.invariant (omega arith)
-    (positions (set c.loop-start.starts c.loop-start.start-index c.halves.result)) (length c.first_moves.result.now)
-    (omega (arith, length-map c.loop-start.starts joined)) (positions_set c.loop-start.starts c.loop-start.start-index c.halves.result c.halves.ensures)
-    (λ g reads.
-    let t = front_place g c.loop-start.start-index (left g reads) in
-    ap length (c.first_moves.ensures t.0 t.1 (take_rest _ c.loop-start.at ∙ (c.loop-start.invariant g reads).0.left ∙ t.2) ∙ sym t.3))
+pub overflow_add-at-in-loop-i : goal.overflow_add-at-in-loop-i
+overflow_add-at-in-loop-i c =
+    let fits = starting_fits c.args.words.now _ _ _ _ c.loop-i.invariant c.in-Some.head _ c.in-Some.ensures.steps.0 c.requires.game.0 c.requires.game.1 in
+    omega arith
+
+pub loop-i-preserved : goal.loop-i-preserved
+loop-i-preserved c =
+    let step = c.in-Some.ensures.steps in
+    starting_more c.args.words.now _ _ _ _ c.loop-i.invariant c.in-Some.head _ step.0 c.in-Some.i _
+    (positions (set c.loop-i.starts c.in-Some.i c.halves.result)) (omega (arith, length-map c.loop-i.starts joined)) step.1 step.2
+    (positions_set c.loop-i.starts c.in-Some.i c.halves.result c.halves.ensures)
 
 pub returns : goal.returns
 returns c =
-    starting_all c.args.words.now (positions c.loop-start.starts) c.loop-start.start-index c.loop-start.at c.loop-start.invariant (omega arith)
-    (omega (arith, length-map c.loop-start.starts joined))
+    starting_all c.args.words.now (positions c.loop-i.starts) c.loop-i.i-iterator.count c.loop-i.at
+    (subst (λ h. Starting c.args.words.now h (positions c.loop-i.starts) c.loop-i.i-iterator.count c.loop-i.at) c.in-None.ensures.steps.0.0 c.loop-i.invariant)
+    (omega (arith, length-map c.loop-i.starts joined))
