@@ -8,6 +8,7 @@ mod Sets
 mod Plays
 mod Rounds
 mod Plans
+mod Heads
 mod Heaviest
 mod Shifting
 mod Within

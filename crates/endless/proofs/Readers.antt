@@ -1,12 +1,19 @@
 -- Words read one place at a time: what a place's words are, what is left behind them, and what a whole game is made of.
-use Rattle.std.proofs.Common.{◌≡◌, ℕ, ◌+◌, ◌-◌, ◌<◌, ◌≤◌, Bool, true, false, ◌&&◌, T, ltb, List, [], ◌∷◌, ◌++◌, length, get_or, take, drop, sym, refl, ap, ◌∙◌, subst, arith, le→leb}
+use Rattle.std.proofs.Common.{◌≡◌, ℕ, suc, ◌+◌, ◌-◌, ◌<◌, ◌≤◌, Bool, true, false, ◌&&◌, T, ltb, List, [], ◌∷◌, ◌++◌, length, get_or, take, drop, Some, None, Option, add-zero, sym, refl, ap, ◌∙◌, subst, arith, le→leb}
 use Rattle.std.proofs.lemmas.List.{drop_more, drop-drop, drop_all, append-nil, append_assoc, length-append, take_at, drop_at, take-append-drop, length-take-le, length-drop, take_rest}
 use Rattle.std.specs.List.{list_all}
 use Rattle.std.proofs.lemmas.Bool.{both_ways}
+use Rattle.std.proofs.lemmas.Iterator.{YieldsList}
+use Rattle.std.proofs.lemmas.Iterator.Consumers.{YieldsList-turn, YieldsList-end}
+use Rattle.std.specs.Fn.{Called}
+use Rattle.std.specs.Iterator.{YieldsThen}
+use Rattle.std.specs.List.{FoldsTo}
+use Rattle.std.specs.Option.{MatchOption}
+use denote.Param.Members.{Mut}
 use Rattle.endless.specs.Games.{Place, Game, Reads, below, ok_ps, row}
 use Rattle.endless.specs.Sides.{number}
 use Rattle.endless.specs.Heads.{Begins}
-use Rattle.endless.specs.Words.{Stands}
+use Rattle.endless.specs.Words.{Stands, PlaceEnds}
 use Rattle.endless.proofs.Tests.{T_true, true_T, from_both}
 use Rattle.endless.proofs.Places.{ok_parts, ok_from, ok_size}
 use Rattle.endless.specs.declared.side.Side.{Side}
@@ -157,3 +164,38 @@ reading_behind s n i at e r g rd = ended (r.needed g rd)
     ended : (ps : List Place) × (length ps + i ≡ n) × (drop at s ≡ row ps) × T (ok_ps n ps) → at ≡ length s
     ended ([], many, left, ok) = omega (arith, r.within, length-drop at s, ap length left)
     ended (q ∷ ps, many, left, ok) = absurd (omega arith)
+
+-- one place read after the other by a closure that says where each ends
+abbrev pub Goes : {F : Type 0} → Mut F (ℕ × (ℕ × Unit {0})) (Option ℕ) → F × ℕ → ℕ → F × ℕ → Type 0
+Goes g p x q = (v : Option ℕ) × Called g p.0 (p.1, (x, tt)) v q.0 × (v ≡ Some q.1)
+
+module _ {F : Type 0} (g : Mut F (ℕ × (ℕ × Unit {0})) (Option ℕ)) (f : F) (s : List ℕ) (n : ℕ)
+    (ends : (at x : ℕ) (r : Option ℕ) (h : F) → Called g f (at, (x, tt)) r h → (h ≡ f) × PlaceEnds s at n r) where
+  turns : (xs : List ℕ) (i at : ℕ) (p q : F × ℕ) → p ≡ (f, at) → i + length xs ≤ n → Reading s n i at → FoldsTo (Goes g) p xs q → (q.0 ≡ f) × Reading s n (i + length xs) q.1
+  turns [] i at p q e fit r folds =
+      let here : q ≡ (f, at) = sym folds ∙ e in
+      (ap (λ z. z.0) here, subst (λ m. Reading s n m q.1) (sym (add-zero i)) (subst (Reading s n i) (sym (ap (λ z. z.1) here)) r))
+  turns (x ∷ xs) i at p q e fit r (j, (v, called, on), folds) =
+      let t = ends at x v j.0 (subst (λ z. Called g z.0 (z.1, (x, tt)) v j.0) e called) in
+      let st : PlaceEnds s at n (Some j.1) = subst (PlaceEnds s at n) on t.1 in
+      let more = turns xs (i + 1) j.1 j q (λ k. (t.0 k, j.1)) (omega arith) (reading_more s n i at st.0 j.1 (omega arith) r st.1) folds in
+      (more.0, subst (λ m. Reading s n m q.1) (let sum : i + 1 + length xs ≡ i + suc (length xs) = omega arith in sum) more.1)
+
+-- over n turns: where the last place ends, or that the words are no game
+pub read_in_turns : {F E S : Type 0} {steps : S → Option ℕ → S → Type 0} {start : S} (g : Mut F (ℕ × (ℕ × Unit {0})) (Option ℕ)) (f : F) (s : List ℕ) (n : ℕ) (result : Option ℕ) (last : S) (all : List ℕ)
+    → (xs : List ℕ) × (o : Option ℕ) × (f' : F) × (a : ℕ) × YieldsThen steps start xs o last × FoldsTo (Goes g) (f, 1) xs (f', a)
+    × MatchOption o (result ≡ Some a) (λ x. (v : Option ℕ) × (h : F) × (e : E) × Called g f' (a, (x, tt)) v h × (v ≡ None) × (result ≡ None))
+    → ((at x : ℕ) (r : Option ℕ) (h : F) → Called g f (at, (x, tt)) r h → (h ≡ f) × PlaceEnds s at n r)
+    → YieldsList steps (λ x. x) start all → length all ≡ n → Reading s n 0 1
+    → MatchOption result ((game : Game) → Reads s game → ⊥) (λ end. Reading s n n end)
+read_in_turns g f s n result last all (xs, None, f', at, (t, yields, step), folds, on) ends road many first =
+    let end = YieldsList-end road xs t yields None last refl step in
+    let r = turns g f s n ends xs 0 1 (f, 1) (f', at) refl (omega (arith, end.1)) first folds in
+    subst (λ o. MatchOption o ((game : Game) → Reads s game → ⊥) (λ end. Reading s n n end)) (sym on)
+    (subst (λ m. Reading s n m at) (let all-read : 0 + length xs ≡ n = omega (arith, end.1) in all-read) r.1)
+read_in_turns g f s n result last all (xs, Some x, f', at, (t, yields, step), folds, (v, h, e, called, off, made)) ends road many first =
+    let turn = YieldsList-turn road xs t yields (Some x) last x refl step in
+    let r = turns g f s n ends xs 0 1 (f, 1) (f', at) refl (omega (arith, turn.0)) first folds in
+    let missing : PlaceEnds s at n None = subst (PlaceEnds s at n) off (ends at x v h (subst (λ z. Called g z (at, (x, tt)) v h) r.0 called)).1 in
+    subst (λ o. MatchOption o ((game : Game) → Reads s game → ⊥) (λ end. Reading s n n end)) (sym made)
+    (reading_stops s n (0 + length xs) at (omega (arith, turn.0)) r.1 missing)

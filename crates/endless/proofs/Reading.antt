@@ -1,15 +1,9 @@
 -- Reading the words of a game from the front: past i places, what is left are the words of the other places.
-use Rattle.std.proofs.Common.{◌≡◌, ℕ, zero, suc, ◌+◌, ◌-◌, ◌<◌, ◌≤◌, Bool, true, false, ◌&&◌, T, List, [], ◌∷◌, ◌++◌, length, get_or, take, drop, None, sym, refl, ap, ◌∙◌, add-one, arith}
+use Rattle.std.proofs.Common.{◌≡◌, ℕ, zero, suc, ◌+◌, ◌<◌, ◌≤◌, Bool, true, false, ◌&&◌, T, List, [], ◌∷◌, ◌++◌, length, get_or, drop, sym, refl, ap, ◌∙◌, add-one, arith}
 use mathlib.Core.Option.{some}
-use Rattle.std.proofs.lemmas.List.{take_rest, drop-drop, drop_at, take_at, length-drop, length-append}
+use Rattle.std.proofs.lemmas.List.{drop-drop, drop_at, length-drop, length-append}
 use Rattle.endless.specs.Games.{Place, Game, Reads, nth, opt, row, whose, weight}
 use Rattle.endless.specs.Graph.{moves, Reading}
-use Rattle.endless.specs.Heads.{Begins, HeadIs}
-use Rattle.endless.specs.Sides.{number}
-use Rattle.endless.specs.declared.place.Head.{Head}
-use Rattle.endless.proofs.Among.{among_at}
-use Rattle.endless.proofs.Places.{side_below, weight_below, has_move}
-use Rattle.endless.proofs.Readers.{Behind, three_front}
 
 -- ---- the parts of a conjunction
 
@@ -43,60 +37,36 @@ module _ (s : List ℕ) (g : Game) (reads : Reads s g) where
 pub reading_start : (s : List ℕ) (g : Game) → Reads s g → Reading s g 0 1
 reading_start s g reads = record { left = ap (drop 1) reads.is; bound = words_some s g reads }
 
--- the head that stands at `at`, the moves behind it, and what is left behind these
-pub record Here (s : List ℕ) (g : Game) (i at : ℕ) : Type 0 where
-  pub owner : get_or (take (length s - at) (drop at s)) 0 0 ≡ whose g i
-  pub weighs : get_or (take (length s - at) (drop at s)) 1 0 ≡ weight g i
-  pub many : get_or (take (length s - at) (drop at s)) 2 0 ≡ length (moves g i)
-  pub long : 3 + length (moves g i) ≤ length (take (length s - at) (drop at s))
-  pub goes : take (length (moves g i)) (drop (at + 3) s) ≡ moves g i
-  pub room : at + (3 + length (moves g i)) ≤ length s
-  pub next : Reading s g (i + 1) (at + (3 + length (moves g i)))
-
-pub here : (s : List ℕ) (g : Game) (i at : ℕ) → i < length g → Reading s g i at → Here s g i at
-here s g i at h r = build (there g i h)
+pub reading_next : (s : List ℕ) (g : Game) (i at : ℕ) → i < length g → Reading s g i at → Reading s g (i + 1) (at + (3 + length (moves g i)))
+reading_next s g i at h r = build (there g i h)
   where
-    build : There g i → Here s g i at
+    build : There g i → Reading s g (i + 1) (at + (3 + length (moves g i)))
     build t =
         let words : drop at s ≡ t.p.whose ∷ t.p.weight ∷ length t.p.moves ∷ (t.p.moves ++ row (drop (suc i) g)) = r.left ∙ ap row t.rest in
-        let slice : take (length s - at) (drop at s) ≡ t.p.whose ∷ t.p.weight ∷ length t.p.moves ∷ (t.p.moves ++ row (drop (suc i) g)) =
-        take_rest s at ∙ words in
-        let are : moves g i ≡ t.p.moves = ap (λ o. opt o [] (λ p. p.moves)) t.is in
         let behind : drop (at + 3) s ≡ t.p.moves ++ row (drop (suc i) g) = sym (drop-drop 3 at s) ∙ ap (drop 3) words in
+        let many : length (moves g i) ≡ length t.p.moves = ap (λ o. length (opt o [] (λ p. p.moves))) t.is in
         let long : length (drop at s) ≡ suc (suc (suc (length (t.p.moves ++ row (drop (suc i) g))))) = ap length words in
-        let many : length (moves g i) ≡ length t.p.moves = ap length are in
-        let room : at + (3 + length (moves g i)) ≤ length s =
-        omega (arith, length-drop at s, length-append t.p.moves (row (drop (suc i) g)), r.bound) in
         record {
-          long = (let e : length (take (length s - at) (drop at s)) ≡ length (drop at s) = ap length (take_rest s at) in omega (arith, length-drop at s));
-          owner = ap (λ l. get_or l 0 0) slice ∙ sym (ap (λ o. opt o 0 (λ p. p.whose)) t.is);
-          weighs = ap (λ l. get_or l 1 0) slice ∙ sym (ap (λ o. opt o 0 (λ p. p.weight)) t.is);
-          many = ap (λ l. get_or l 2 0) slice ∙ sym many;
-          goes = ap (λ n. take n (drop (at + 3) s)) many ∙ ap (take (length t.p.moves)) behind
-              ∙ take_at t.p.moves (row (drop (suc i) g)) (length t.p.moves) refl ∙ sym are;
-          room = room;
-          next = record {
-            left = ap (λ n. drop n s) (let e : at + (3 + length (moves g i)) ≡ (at + 3) + length t.p.moves = omega arith in e)
-                ∙ sym (drop-drop (length t.p.moves) (at + 3) s) ∙ ap (drop (length t.p.moves)) behind
-                ∙ drop_at t.p.moves (row (drop (suc i) g)) (length t.p.moves) refl ∙ ap (λ n. row (drop n g)) (sym (add-one i));
-            bound = room;
-          };
+          left = ap (λ n. drop n s) (let e : at + (3 + length (moves g i)) ≡ (at + 3) + length t.p.moves = omega arith in e)
+              ∙ sym (drop-drop (length t.p.moves) (at + 3) s) ∙ ap (drop (length t.p.moves)) behind
+              ∙ drop_at t.p.moves (row (drop (suc i) g)) (length t.p.moves) refl ∙ ap (λ n. row (drop n g)) (sym (add-one i));
+          bound = omega (arith, length-drop at s, length-append t.p.moves (row (drop (suc i) g)), r.bound);
         }
 
--- the same where the loop's test says that a place is left
-pub here_before : (s : List ℕ) (g : Game) → Reads s g → (i at : ℕ) → i < get_or s 0 0 → Reading s g i at → Here s g i at
-here_before s g reads i at h r = here s g i at (omega (arith, places_are s g reads)) r
+-- ---- the words from a place on
 
--- a head stands there, and it is the place's own
-module _ (s : List ℕ) (g : Game) (i at : ℕ) (h : i < length g) (r : Reading s g i at) where
-  pub some_head : {words : List ℕ} → Reads words g → HeadIs (Behind s at) None → ⊥
-  some_head reads headless =
-      let now = here s g i at h r in
-      let m = has_move reads i h in
-      headless _ _ _ _ (three_front (Behind s at) (omega (arith, now.long))) (omega (arith, now.owner, side_below reads i))
-      (omega (arith, now.weighs, weight_below reads i)) (omega (arith, now.many, (among_at m.0 (moves g i) m.1).1))
+module _ (g : Game) (n : ℕ) (h : n < length g) where
+  pub front_owner : get_or (row (drop n g)) 0 0 ≡ whose g n
+  front_owner = let t = there g n h in ap (λ l. get_or (row l) 0 0) t.rest ∙ sym (ap (λ o. opt o 0 (λ p. p.whose)) t.is)
 
-  pub own_head : (head : Head) → Begins (Behind s at) head → (number head.whose ≡ whose g i) × (head.weight ≡ weight g i) × (head.moves ≡ length (moves g i))
-  own_head head b =
-      let now = here s g i at h r in
-      (sym (ap (λ l. get_or l 0 0) b.is) ∙ now.owner, sym (ap (λ l. get_or l 1 0) b.is) ∙ now.weighs, sym (ap (λ l. get_or l 2 0) b.is) ∙ now.many)
+  pub front_weighs : get_or (row (drop n g)) 1 0 ≡ weight g n
+  front_weighs = let t = there g n h in ap (λ l. get_or (row l) 1 0) t.rest ∙ sym (ap (λ o. opt o 0 (λ p. p.weight)) t.is)
+
+  pub front_many : get_or (row (drop n g)) 2 0 ≡ length (moves g n)
+  front_many = let t = there g n h in ap (λ l. get_or (row l) 2 0) t.rest ∙ sym (ap (λ o. length (opt o [] (λ p. p.moves))) t.is)
+
+  pub front_long : 3 ≤ length (row (drop n g))
+  front_long = let t = there g n h in omega (arith, ap (λ l. length (row l)) t.rest)
+
+  pub front_place : (p : Place) × (ps : List Place) × (row (drop n g) ≡ row (p ∷ ps)) × (moves g n ≡ p.moves)
+  front_place = let t = there g n h in (t.p, drop (suc n) g, ap row t.rest, ap (λ o. opt o [] (λ p. p.moves)) t.is)

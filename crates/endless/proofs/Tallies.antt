@@ -1,13 +1,14 @@
 -- Counts of weights, place by place.
-use Rattle.std.proofs.Common.{◌≡◌, ℕ, zero, suc, ◌+◌, ◌-◌, ◌^◌, ◌<◌, ◌≤◌, eqb, ltb, ◌⊎◌, List, length, get_or, take, drop, set, replicate, sym, refl, ap, ◌∙◌, subst, inl, inr, add-one, arith}
-use Rattle.std.proofs.lemmas.List.{get_or-set_same, get_or-set_other, length-set, length-replicate}
+use Rattle.std.proofs.Common.{◌≡◌, ℕ, zero, suc, ◌+◌, ◌^◌, ◌<◌, ◌≤◌, eqb, ltb, ◌⊎◌, List, [], ◌∷◌, length, get_or, drop, set, map, replicate, sym, refl, ap, ◌∙◌, inl, inr, add-one, arith}
+use Rattle.std.proofs.lemmas.List.{get_or-set_same, get_or-set_other, length-set, length-replicate, length-map, length-drop}
 use Rattle.std.proofs.lemmas.Bool.{cases_eq, eq-eqb, ne_eqb}
 use Rattle.endless.specs.Games.{Game, Reads, weight}
 use Rattle.endless.specs.Bits.{count}
 use Rattle.endless.specs.Weights.{weighing, occurs, kinds}
-use Rattle.endless.specs.Graph.{Reading}
+use Rattle.endless.specs.Heads.{head_of}
+use Rattle.endless.specs.declared.place.HeadWords.{HeadWords}
 use Rattle.endless.proofs.Places.{ok_size, weight_below}
-use Rattle.endless.proofs.Reading.{reading_start, here_before, places_are}
+use Rattle.endless.proofs.Heads.{Turn, turn}
 use Rattle.endless.proofs.CountLaws.{one_if, count_zero, count_suc, count_le, count_same}
 
 -- the first i places counted by their weights
@@ -43,39 +44,33 @@ module _ (g : Game) (i : ℕ) (counts : List ℕ) (t : Tallied g i counts) where
           let none : one_if (eqb (weight g i) k) ≡ 0 = ap one_if (ne_eqb (weight g i) k (λ e. d (omega arith))) in
           get_or-set_other counts w k (get_or counts w 0 + 1) 0 d ∙ (omega (arith, step k, t.are k))
 
--- the same over the words, for every game that reads as them
-abbrev pub Weighed : List ℕ → ℕ → ℕ → List ℕ → Type 0
-Weighed s i at counts = (g : Game) → Reads s g → Reading s g i at × Tallied g i counts
+-- the same over the words, for every game that reads as them: these heads are still to come
+abbrev pub Weighed : List ℕ → List HeadWords → List ℕ → Type 0
+Weighed s heads counts = (g : Game) → Reads s g → (i : ℕ) × (i ≤ length g) × (heads ≡ map head_of (drop i g)) × Tallied g i counts
 
-pub weighed_start : (s : List ℕ) → Weighed s 0 1 (replicate 256 0)
-weighed_start s g reads = (reading_start s g reads, tallied_start g)
+pub weighed_start : (s : List ℕ) (heads : List HeadWords) → ((g : Game) → Reads s g → heads ≡ map head_of g) → Weighed s heads (replicate 256 0)
+weighed_start s heads are g reads = (0, omega arith, are g reads, tallied_start g)
 
-pub weighed_long : (s : List ℕ) (i at : ℕ) (counts : List ℕ) → i < get_or s 0 0 → Weighed s i at counts → (g : Game) → Reads s g
-    → 3 ≤ length (take (length s - at) (drop at s))
-weighed_long s i at counts before inv g reads = omega (arith, (here_before s g reads i at before (inv g reads).0).long)
+module _ (s : List ℕ) (heads : List HeadWords) (counts : List ℕ) (inv : Weighed s heads counts) (head : HeadWords) (rest : List HeadWords) (is : heads ≡ head ∷ rest) where
+  here : (g : Game) (reads : Reads s g) → Turn g (inv g reads).0 head rest
+  here g reads = turn g (inv g reads).0 head rest (sym (inv g reads).2 ∙ is)
 
-module _ (s : List ℕ) (i at : ℕ) (counts : List ℕ) (before : i < get_or s 0 0) (inv : Weighed s i at counts)
-    (w m : ℕ) (is : w ≡ get_or (take (length s - at) (drop at s)) 1 0) (many : m ≡ get_or (take (length s - at) (drop at s)) 2 0) where
-  weight_is : (g : Game) → Reads s g → w ≡ weight g i
-  weight_is g reads = is ∙ (here_before s g reads i at before (inv g reads).0).weighs
+  pub weighed_index : (g : Game) → Reads s g → head.weight < 256
+  weighed_index g reads = omega (arith, (here g reads).weighs, weight_below reads (inv g reads).0)
 
-  pub weighed_index : (g : Game) → Reads s g → w < 256
-  weighed_index g reads = omega (arith, weight_is g reads, places_are s g reads, weight_below reads i)
+  pub weighed_fits : (g : Game) → Reads s g → get_or counts head.weight 0 + 1 < 2 ^ 32
+  weighed_fits g reads = omega (arith, tallied_le g (inv g reads).0 counts (inv g reads).3 head.weight, (here g reads).below, (ok_size s g reads).1)
 
-  pub weighed_fits : (g : Game) → Reads s g → get_or counts w 0 + 1 < 2 ^ 32
-  weighed_fits g reads = omega (arith, tallied_le g i counts (inv g reads).1 w, places_are s g reads, (ok_size s g reads).1)
-
-  pub weighed_more : Weighed s (i + 1) (at + (3 + m)) (set counts w (get_or counts w 0 + 1))
+  pub weighed_more : Weighed s rest (set counts head.weight (get_or counts head.weight 0 + 1))
   weighed_more g reads =
-      let here = here_before s g reads i at before (inv g reads).0 in (
-        subst (λ n. Reading s g (i + 1) (at + (3 + n))) (sym (many ∙ here.many)) here.next,
-        tallied_more g i counts (inv g reads).1 w (weighed_index g reads) (weight_is g reads),
-      )
+      let t = here g reads in
+      ((inv g reads).0 + 1, omega (arith, t.below), t.others, tallied_more g (inv g reads).0 counts (inv g reads).3 head.weight (weighed_index g reads) t.weighs)
 
-pub weighed_all : (s : List ℕ) (i at : ℕ) (counts : List ℕ) → i ≡ get_or s 0 0 → Weighed s i at counts
-    → (g : Game) → Reads s g → (k : ℕ) → get_or counts k 0 ≡ weighing g k
-weighed_all s i at counts e inv g reads k =
-    (inv g reads).1.are k ∙ ap (count (λ n. eqb (weight g n) k)) (e ∙ places_are s g reads)
+pub weighed_all : (s : List ℕ) (counts : List ℕ) → Weighed s [] counts → (g : Game) → Reads s g → (k : ℕ) → get_or counts k 0 ≡ weighing g k
+weighed_all s counts inv g reads k =
+    let t = inv g reads in
+    let all : t.0 ≡ length g = omega (arith, t.1, ap length t.2, length-map (drop t.0 g) head_of, length-drop t.0 g) in
+    t.3.are k ∙ ap (count (λ n. eqb (weight g n) k)) all
 
 -- how many weights occur, from the counts
 pub kinds_are : (counts : List ℕ) (g : Game) → length counts ≡ 256 → ((k : ℕ) → get_or counts k 0 ≡ weighing g k)

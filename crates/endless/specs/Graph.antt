@@ -1,12 +1,13 @@
 -- A game in words as a graph: where each place's words start, and which places may move to a place.
-use Rattle.std.specs.Prelude.{◌≡◌, ℕ, zero, suc, ◌+◌, ◌-◌, ◌*◌, ◌^◌, ◌<◌, ◌≤◌, cond, ◌↔◌, List, [], ◌∷◌, ◌++◌, length, take, drop, replicate, ◌==◌, slice_index, slice_index_or}
+use Rattle.std.specs.Prelude.{◌≡◌, ℕ, zero, suc, ◌+◌, ◌-◌, ◌*◌, ◌^◌, ◌<◌, ◌≤◌, cond, ◌↔◌, List, [], ◌∷◌, ◌++◌, map, length, take, drop, replicate, ◌==◌, slice_index, slice_index_or}
 use Rattle.endless.specs.Games.{Place, Game, Reads, Among, May, nth, opt, row}
 
--- numbers that may take 64 bits, each in a low and a high word
-unfoldable pub positions : List ℕ → List ℕ → List ℕ
-positions [] hs = []
-positions (l ∷ ls) [] = []
-positions (l ∷ ls) (h ∷ hs) = (h * 2 ^ 32 + l) ∷ positions ls hs
+-- numbers that may take 64 bits, each in two words, the low one first
+abbrev pub joined : List ℕ → ℕ
+joined ws = slice_index ws 1 * 2 ^ 32 + slice_index ws 0
+
+abbrev pub positions : List (List ℕ) → List ℕ
+positions = map joined
 
 -- the moves of a place
 abbrev pub moves : Game → ℕ → List ℕ

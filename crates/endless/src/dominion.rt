@@ -35,7 +35,7 @@ impl Claim<'_> {
         match self.losing_round(left, queue, ranks, lent) {
             Some(place) => Err(Flaw::LosingRound {
                 through: PlaceId(place),
-                heaviest: self.graph.head(place).weight,
+                heaviest: self.graph.weight(place),
             }),
             None => Ok(()),
         }

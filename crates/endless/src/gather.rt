@@ -21,7 +21,7 @@ pub(crate) fn heaviest(graph: &Graph, set: &[u32]) -> u32
 {
     let mut heaviest: u32 = 0;
     for place in bits::iter(set) {
-        heaviest = heaviest.max(graph.head(place).weight);
+        heaviest = heaviest.max(graph.weight(place));
     }
     heaviest
 }
@@ -100,7 +100,7 @@ fn gather_heaviest_in(
     let mut from = 0;
     // The set loses members on the way, so that no iterator can borrow it.
     while let Some(place) = bits::next(left, from) {
-        if graph.head(place).weight == heaviest {
+        if graph.weight(place) == heaviest {
             take_place(graph, side, place, own, left, out, queue, count);
             count += 1;
         }
@@ -116,7 +116,7 @@ fn heaviest_of(graph: &Graph, list: &[u32]) -> u32
 {
     let mut most: u32 = 0;
     for place in list {
-        most = most.max(graph.head(*place).weight);
+        most = most.max(graph.weight(*place));
     }
     most
 }
@@ -161,7 +161,7 @@ fn take_heavy(
     if !bits::has(left, place) {
         return count;
     }
-    if graph.head(place).weight != heaviest {
+    if graph.weight(place) != heaviest {
         return count;
     }
     take_place(graph, side, place, own, left, out, queue, count);

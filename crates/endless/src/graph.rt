@@ -1,35 +1,33 @@
 //! A game in words as a graph: where each place's words start, and which places may move to a place.
-ghost use Rattle.std.specs.Prelude.{◌≡◌, ℕ, suc, ◌+◌, ◌^◌, ◌<◌, ◌≤◌, List, length, ◌==◌, slice_index};
-ghost use Rattle.endless.specs.Games.{Game, Reads, whose, weight};
+ghost use Rattle.std.specs.Prelude.{◌≡◌, ℕ, suc, ◌+◌, ◌^◌, ◌<◌, ◌≤◌, List, ◌∷◌, length, drop, ◌==◌, slice_index};
+ghost use Rattle.endless.specs.Games.{Place, Game, Reads, row, whose, weight};
 ghost use Rattle.endless.specs.Graph.{positions, moves, Reading, Placed, Preds, times, upto, Filling, Room, Counts, Entered, entering, edges, Ready, Listed};
 ghost use Rattle.endless.specs.Sides.{number};
 ghost use Rattle.endless.specs.View.{Playable};
 
-use crate::place::{Head, HeadWords};
-use crate::positions::{position, put};
+use crate::place::{Head, HeadWords, heads_of};
+use crate::positions::{Halves, halves, position};
 use crate::side::Side;
 use std::marker::Model;
 
-/// The moves of the place whose words start at `at`.
-fn moves_at(words: &[u32], at: usize) -> &[u32]
-    requires { (g : Game) × (i : ℕ) × (i < length g) × Reading words.now g i at }
-    ensures { (g : Game) (i : ℕ) → i < length g → Reading words.now g i at → result.now ≡ moves g i }
+/// The moves of the place that these words begin with.
+fn first_moves(words: &[u32]) -> &[u32]
+    requires { (p : Place) × (ps : List Place) × (words.now ≡ row (p ∷ ps)) }
+    ensures { (p : Place) (ps : List Place) → words.now ≡ row (p ∷ ps) → result.now ≡ p.moves }
 {
-    let head = HeadWords::read(&words[at..]);
-    &words[at + 3..at + 3 + head.moves as usize]
+    &words[3..3 + words[2] as usize]
 }
 
 /// Writes down where each place's words start.
-pub fn find_starts(words: &[u32], low: &mut [u32], high: &mut [u32])
+pub fn find_starts(words: &[u32], starts: &mut [Halves])
     requires game { (g : Game) × Reads words.now g }
-    requires low { length low.old ≡ slice_index words.now 0 }
-    requires high { length high.old ≡ slice_index words.now 0 }
-    ensures { (g : Game) → Reads words.now g → Placed words.now g (positions low.new high.new) }
+    requires starts { length starts.old ≡ slice_index words.now 0 }
+    ensures { (g : Game) → Reads words.now g → Placed words.now g (positions starts.new) }
 {
     let mut at = 1;
-    for i in 0..words[0] as usize {
-        put(low, high, i, at);
-        at += 3 + moves_at(words, at).len();
+    for (i, head) in heads_of(words).enumerate() {
+        starts[i] = halves(at);
+        at += 3 + head.moves as usize;
     }
 }
 
@@ -37,8 +35,7 @@ pub fn find_starts(words: &[u32], low: &mut [u32], high: &mut [u32])
 #[derive(Drop)]
 pub struct Places<'a> {
     words: &'a [u32],
-    low: &'a [u32],
-    high: &'a [u32],
+    starts: &'a [Halves],
 }
 
 impl<'a> Model for Places<'a> {
@@ -50,19 +47,18 @@ impl<'a> Model for Places<'a> {
 
     ghost view = { λ p. game_in p.words.now };
 
-    ghost invariant = { λ p. Placed p.words.now (game_in p.words.now) (positions p.low.now p.high.now) };
+    ghost invariant = { λ p. Placed p.words.now (game_in p.words.now) (positions p.starts.now) };
 }
 
 impl<'a> Places<'a> {
-    /// The places of the game that reads as these words; `low` and `high` are lent for their starts.
-    pub fn new(words: &'a [u32], low: &'a mut [u32], high: &'a mut [u32]) -> Places<'a>
+    /// The places of the game that reads as these words; `starts` is lent for where these of each start.
+    pub fn new(words: &'a [u32], starts: &'a mut [Halves]) -> Places<'a>
         requires game { (g : Game) × Reads words.now g }
-        requires low { length low.old ≡ slice_index words.now 0 }
-        requires high { length high.old ≡ slice_index words.now 0 }
+        requires starts { length starts.old ≡ slice_index words.now 0 }
         ensures { (g : Game) → Reads words.now g → result ≡ g }
     {
-        find_starts(words, low, high);
-        Places { words, low, high }
+        find_starts(words, starts);
+        Places { words, starts }
     }
 
     /// How many places there are.
@@ -81,11 +77,25 @@ impl<'a> Places<'a> {
         ensures moves { result.moves ≡ length (moves self.now n) }
         ensures playable { Playable self.now }
     {
-        let at = position(self.low, self.high, n as usize);
-        match Head::read(&self.words[at..]) {
-            Some(head) => head,
-            None => unreachable(),
+        let head = HeadWords::read(self.words_from(n));
+        Head {
+            whose: if head.whose == 0 {
+                Side::Even
+            } else {
+                Side::Odd
+            },
+            weight: head.weight,
+            moves: head.moves,
         }
+    }
+
+    /// The weight of a place.
+    pub fn weight(&self, n: u32) -> u32
+        requires { n < length self.now }
+        ensures weight { result ≡ weight self.now n }
+        ensures light { result < 256 }
+    {
+        self.words_from(n)[1]
     }
 
     /// Whether it is this side's move at a place.
@@ -93,7 +103,7 @@ impl<'a> Places<'a> {
         requires { n < length self.now }
         ensures { result ≡ (whose self.now n == number side) }
     {
-        self.head(n).whose.to_word() == side.to_word()
+        self.words_from(n)[0] == side.to_word()
     }
 
     /// The moves of a place.
@@ -102,7 +112,17 @@ impl<'a> Places<'a> {
         ensures moves { result.now ≡ moves self.now n }
         ensures playable { Playable self.now }
     {
-        moves_at(self.words, position(self.low, self.high, n as usize))
+        first_moves(self.words_from(n))
+    }
+
+    /// The words of a place, and of those behind it.
+    fn words_from(&self, n: u32) -> &'a [u32]
+        requires { n < length self.now }
+        ensures are { result.now ≡ row (drop n self.now) }
+        ensures playable { Playable self.now }
+    {
+        let at = position(self.starts[n as usize]);
+        &self.words[at..]
     }
 }
 
@@ -110,8 +130,7 @@ impl<'a> Places<'a> {
 #[derive(Drop)]
 pub struct Graph<'a> {
     places: Places<'a>,
-    low: &'a [u32],
-    high: &'a [u32],
+    offsets: &'a [Halves],
     preds: &'a [u32],
 }
 
@@ -123,29 +142,22 @@ impl<'a> Model for Graph<'a> {
 
     ghost view = { λ v. v.places };
 
-    ghost invariant = { λ v. Listed v.places (positions v.low.now v.high.now) v.preds.now };
+    ghost invariant = { λ v. Listed v.places (positions v.offsets.now) v.preds.now };
 }
 
 impl<'a> Graph<'a> {
-    /// The graph of these places; `low`, `high` and `preds` are lent for the lists.
-    pub fn new(
-        places: Places<'a>,
-        low: &'a mut [u32],
-        high: &'a mut [u32],
-        preds: &'a mut [u32],
-    ) -> Graph<'a>
-        requires low { length low.old ≡ length places + 1 }
-        requires high { length high.old ≡ length places + 1 }
+    /// The graph of these places; `offsets` and `preds` are lent for the lists.
+    pub fn new(places: Places<'a>, offsets: &'a mut [Halves], preds: &'a mut [u32]) -> Graph<'a>
+        requires offsets { length offsets.old ≡ length places + 1 }
         requires preds { edges places ≤ length preds.old }
         ensures { result ≡ places.entry }
     {
-        count_entering(&places, low, high);
-        sum_up(low, high);
-        list_sources(&places, low, high, preds);
+        count_entering(&places, offsets);
+        sum_up(offsets);
+        list_sources(&places, offsets, preds);
         Graph {
             places,
-            low,
-            high,
+            offsets,
             preds,
         }
     }
@@ -167,6 +179,15 @@ impl<'a> Graph<'a> {
         ensures playable { Playable self.now }
     {
         self.places.head(n)
+    }
+
+    /// The weight of a place.
+    pub fn weight(&self, n: u32) -> u32
+        requires { n < length self.now }
+        ensures weight { result ≡ weight self.now n }
+        ensures light { result < 256 }
+    {
+        self.places.weight(n)
     }
 
     /// Whether it is this side's move at a place.
@@ -191,74 +212,67 @@ impl<'a> Graph<'a> {
         requires { m < length self.now }
         ensures preds { Preds self.now m result.now }
     {
-        let from = position(self.low, self.high, m as usize);
-        let to = position(self.low, self.high, m as usize + 1);
+        let from = position(self.offsets[m as usize]);
+        let to = position(self.offsets[m as usize + 1]);
         &self.preds[from..to]
     }
 }
 
 /// Counts one more for the place that each of these moves leads to.
-fn count_moves(targets: &[u32], low: &mut [u32], high: &mut [u32])
-    requires long { length low.old ≡ length high.old }
-    requires within { (k : ℕ) → k < length targets.now → slice_index targets.now k < length low.old }
-    requires fits { (m : ℕ) → slice_index (positions low.old high.old) m + times m targets.now < 2 ^ 64 }
-    ensures { Counts (positions low.old high.old) targets.now (positions low.new high.new) }
+fn count_moves(targets: &[u32], counts: &mut [Halves])
+    requires within { (k : ℕ) → k < length targets.now → slice_index targets.now k < length counts.old }
+    requires fits { (m : ℕ) → slice_index (positions counts.old) m + times m targets.now < 2 ^ 64 }
+    ensures { Counts (positions counts.old) targets.now (positions counts.new) }
 {
     for target in targets {
         let target = *target as usize;
-        let count = position(low, high, target);
-        put(low, high, target, count + 1);
+        counts[target] = halves(position(counts[target]) + 1);
     }
 }
 
 /// Makes each count the sum of itself and of those before it.
-fn sum_up(low: &mut [u32], high: &mut [u32])
-    requires long { length low.old ≡ length high.old }
-    requires fits { upto (λ j. slice_index (positions low.old high.old) j) (length low.old) < 2 ^ 64 }
-    ensures { (m : ℕ) → m < length low.old → slice_index (positions low.new high.new) m ≡ upto (λ j. slice_index (positions low.old high.old) j) (suc m) }
+fn sum_up(counts: &mut [Halves])
+    requires { upto (λ j. slice_index (positions counts.old) j) (length counts.old) < 2 ^ 64 }
+    ensures { (m : ℕ) → m < length counts.old → slice_index (positions counts.new) m ≡ upto (λ j. slice_index (positions counts.old) j) (suc m) }
 {
     let mut sum = 0;
-    for i in 0..low.len() {
-        sum += position(low, high, i);
-        put(low, high, i, sum);
+    for count in counts.iter_mut() {
+        sum += position(*count);
+        *count = halves(sum);
     }
 }
 
 /// Enters a place at the front of the list of each of its moves.
-fn enter(place: u32, targets: &[u32], low: &mut [u32], high: &mut [u32], preds: &mut [u32])
-    requires long { length low.old ≡ length high.old }
-    requires room { (f : ℕ → ℕ) × (n : ℕ) × (D : ℕ → List ℕ) × Filling f n (positions low.old high.old) preds.old D × Room f n targets.now (positions low.old high.old) preds.old D }
-    ensures { Entered targets.now place (positions low.old high.old) preds.old (positions low.new high.new) preds.new }
+fn enter(place: u32, targets: &[u32], ends: &mut [Halves], preds: &mut [u32])
+    requires { (f : ℕ → ℕ) × (n : ℕ) × (D : ℕ → List ℕ) × Filling f n (positions ends.old) preds.old D × Room f n targets.now (positions ends.old) preds.old D }
+    ensures { Entered targets.now place (positions ends.old) preds.old (positions ends.new) preds.new }
 {
     for target in targets {
         let target = *target as usize;
-        let at = position(low, high, target) - 1;
-        put(low, high, target, at);
+        let at = position(ends[target]) - 1;
+        ends[target] = halves(at);
         preds[at] = place;
     }
 }
 
 /// Counts for each place the moves to it.
-fn count_entering(places: &Places, low: &mut [u32], high: &mut [u32])
-    requires low { length low.old ≡ length places.now + 1 }
-    requires high { length high.old ≡ length places.now + 1 }
+fn count_entering(places: &Places, counts: &mut [Halves])
+    requires long { length counts.old ≡ length places.now + 1 }
     requires fits { edges places.now < 2 ^ 64 }
-    ensures { (m : ℕ) → slice_index (positions low.new high.new) m ≡ entering places.now m }
+    ensures { (m : ℕ) → slice_index (positions counts.new) m ≡ entering places.now m }
 {
-    low.fill(0);
-    high.fill(0);
+    counts.fill([0, 0]);
     for v in 0..places.len() {
-        count_moves(places.moves(v), low, high);
+        count_moves(places.moves(v), counts);
     }
 }
 
 /// Enters each place into the lists of its moves, the last place first.
-fn list_sources(places: &Places, low: &mut [u32], high: &mut [u32], preds: &mut [u32])
-    requires long { length low.old ≡ length high.old }
-    requires ready { Ready places.now (positions low.old high.old) preds.old }
-    ensures { Listed places.now (positions low.new high.new) preds.new }
+fn list_sources(places: &Places, ends: &mut [Halves], preds: &mut [u32])
+    requires { Ready places.now (positions ends.old) preds.old }
+    ensures { Listed places.now (positions ends.new) preds.new }
 {
     for v in (0..places.len()).rev() {
-        enter(v, places.moves(v), low, high, preds);
+        enter(v, places.moves(v), ends, preds);
     }
 }

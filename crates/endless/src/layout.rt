@@ -70,13 +70,13 @@ pub fn lay_out<'a>(words: &'a [u32], work: &'a mut [u32]) -> Layout<'a>
 {
     let places = words[0] as usize;
     let moves = words.len() - 1 - 3 * places;
-    let (low, work) = work.split_at_mut(places);
-    let (high, work) = work.split_at_mut(places);
-    let view = Places::new(words, low, high);
-    let (low, work) = work.split_at_mut(places + 1);
-    let (high, work) = work.split_at_mut(places + 1);
+    let (starts, work) = work.split_at_mut(2 * places);
+    let (starts, _) = starts.as_chunks_mut::<2>();
+    let view = Places::new(words, starts);
+    let (offsets, work) = work.split_at_mut(2 * (places + 1));
     let (preds, work) = work.split_at_mut(moves);
-    let graph = Graph::new(view, low, high, preds);
+    let (offsets, _) = offsets.as_chunks_mut::<2>();
+    let graph = Graph::new(view, offsets, preds);
     let (queue, work) = work.split_at_mut(places);
     let (escapes, work) = work.split_at_mut(places);
     let (all, rest) = work.split_at_mut(places.div_ceil(32));

@@ -44,7 +44,7 @@ impl Claim<'_> {
         if !bits::has(left, from) {
             return tail;
         }
-        if self.graph.head(from).weight > heaviest {
+        if self.graph.weight(from) > heaviest {
             return tail;
         }
         if !self.allows(from, to) {
@@ -115,7 +115,7 @@ impl Claim<'_> {
         ensures { result ≡ false → (n : ℕ) → In (members self.now.set.now) n → weigh self.now.graph.now n ≢ weight }
     {
         for place in bits::iter(self.set) {
-            if self.graph.head(place).weight == weight {
+            if self.graph.weight(place) == weight {
                 return true;
             }
         }
@@ -130,7 +130,7 @@ impl Claim<'_> {
         ensures { MatchOption result (NoRoundOf self.now.graph.now (members self.now.set.now) (number self.now.side) (goes self.now.answer.now) heaviest) (λ n. RoundOf self.now.graph.now (members self.now.set.now) (number self.now.side) (goes self.now.answer.now) heaviest n) }
     {
         for place in bits::iter(self.set) {
-            if self.graph.head(place).weight == heaviest {
+            if self.graph.weight(place) == heaviest {
                 if self.comes_back(heaviest, place, left, queue) {
                     return Some(place);
                 }
@@ -160,7 +160,7 @@ impl Claim<'_> {
         let Some(place) = self.first_rise(heaviest, ranks) else {
             return None;
         };
-        if self.graph.head(place).weight == heaviest {
+        if self.graph.weight(place) == heaviest {
             if self.comes_back(heaviest, place, left, queue) {
                 return Some(place);
             }

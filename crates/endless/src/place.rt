@@ -1,6 +1,8 @@
 //! A place of a game, read from its words.
-ghost use Rattle.std.specs.Prelude.{◌≡◌, ◌≤◌, length, slice_index};
-ghost use Rattle.endless.specs.Heads.{HeadIs};
+ghost use Rattle.std.specs.Prelude.{◌≡◌, ◌≤◌, length, map, slice_index};
+ghost use Rattle.std.specs.Iterator.{YieldsFirst, at_most};
+ghost use Rattle.endless.specs.Games.{Game, Reads};
+ghost use Rattle.endless.specs.Heads.{HeadIs, Rows, head_of, heads_in};
 
 use crate::side::Side;
 
@@ -35,10 +37,12 @@ impl Head {
     }
 }
 
-/// The three words before a place's moves as they stand, for words that are
-/// known to be a game.
+/// The three words before a place's moves as they stand.
+// Beside `Head`, since a place of a game with ends may have no moves, and so
+// no `Head`, and since what is known to be a game is not tested once more.
 #[derive(Clone, Copy)]
 pub struct HeadWords {
+    // A word and not a `Side`: it may name none.
     pub whose: u32,
     pub weight: u32,
     pub moves: u32,
@@ -57,5 +61,44 @@ impl HeadWords {
             weight: words[1],
             moves: words[2],
         }
+    }
+}
+
+/// The heads of places whose words stand one after the other.
+#[derive(Clone, Copy)]
+pub struct Heads<'a> {
+    left: u32,
+    words: &'a [u32],
+}
+
+/// Goes through the heads of the places of the game that these words are.
+pub fn heads_of(words: &[u32]) -> Heads<'_>
+    requires { (g : Game) × Reads words.now g }
+    ensures rows { Rows result.left result.words.now }
+    ensures are { (g : Game) → Reads words.now g → heads_in result.left result.words.now ≡ map head_of g }
+{
+    Heads {
+        left: words[0],
+        words: &words[1..],
+    }
+}
+
+impl<'a> Iterator for Heads<'a> {
+    type Item = HeadWords;
+
+    ghost can_next = { λ s. Rows s.left s.words.now };
+
+    ghost next_gives = { YieldsFirst (λ s. heads_in s.left s.words.now) };
+
+    ghost remaining = { λ s. at_most s.left };
+
+    fn next(&mut self) -> Option<HeadWords> {
+        if self.left == 0 {
+            return None;
+        }
+        let head = HeadWords::read(self.words);
+        self.words = &self.words[3 + head.moves as usize..];
+        self.left -= 1;
+        Some(head)
     }
 }

@@ -19,7 +19,7 @@ impl View for Ranking<'_, '_> {
         let claim = self.claim;
         place < claim.graph.len()
             && is_in(claim.set, place)
-            && claim.graph.head(place).weight <= self.heaviest
+            && claim.graph.weight(place) <= self.heaviest
     }
 
     fn moves(&self, place: u32) -> &[u32] {

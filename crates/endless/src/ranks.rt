@@ -32,7 +32,7 @@ impl Claim<'_> {
         if !bits::has(self.set, place) {
             return false;
         }
-        self.graph.head(place).weight <= heaviest
+        self.graph.weight(place) <= heaviest
     }
 
     /// Whether the ranks may follow one another along the move from `place` to
@@ -49,7 +49,7 @@ impl Claim<'_> {
         if !self.is_light(heaviest, to) {
             return true;
         }
-        let falls = self.graph.head(place).weight == heaviest;
+        let falls = self.graph.weight(place) == heaviest;
         follows(ranks[place as usize], ranks[to as usize], falls)
     }
 
@@ -75,7 +75,7 @@ impl Claim<'_> {
         ensures { MatchOption result ((n : ℕ) → In (members self.now.set.now) n → weight self.now.graph.now n ≤ heaviest → FallsAt self.now.graph.now (members self.now.set.now) (number self.now.side) (goes self.now.answer.now) heaviest ranks.now n) (λ n. In (members self.now.set.now) n) }
     {
         for place in bits::iter(self.set) {
-            if self.graph.head(place).weight <= heaviest {
+            if self.graph.weight(place) <= heaviest {
                 if !self.falls_at(heaviest, ranks, place) {
                     return Some(place);
                 }

@@ -4,7 +4,7 @@ ghost use Rattle.endless.specs.Games.{Game, Reads};
 ghost use Rattle.endless.specs.Bits.{count};
 ghost use Rattle.endless.specs.Weights.{weighing, kinds};
 
-use crate::place::HeadWords;
+use crate::place;
 
 /// How many weights a place can have.
 pub const WEIGHTS: usize = 256;
@@ -15,11 +15,8 @@ pub fn tally(words: &[u32]) -> [u32; WEIGHTS]
     ensures { (g : Game) → Reads words.now g → (k : ℕ) → slice_index result k ≡ weighing g k }
 {
     let mut counts = [0; WEIGHTS];
-    let mut at = 1;
-    for _place in 0..words[0] {
-        let head = HeadWords::read(&words[at..]);
+    for head in place::heads_of(words) {
         counts[head.weight as usize] += 1;
-        at += 3 + head.moves as usize;
     }
     counts
 }

@@ -16,14 +16,10 @@ pub fn is_game(words: &[u32]) -> bool
     let Some(places) = places(words) else {
         return false;
     };
-    let mut at = 1;
-    for _ in 0..places {
-        let Some(end) = place_end(words, at, places) else {
-            return false;
-        };
-        at = end;
-    }
-    at == words.len()
+    let Some(end) = (0..places).try_fold(1, |at, _| place_end(words, at, places)) else {
+        return false;
+    };
+    end == words.len()
 }
 
 /// How many places the first word says, if a game may have as many.
@@ -42,10 +38,9 @@ fn places(words: &[u32]) -> Option<u32>
 /// Where the words of the place at `at` end: `None` if no place of a game
 /// with so many places stands there.
 fn place_end(words: &[u32], at: usize, places: u32) -> Option<usize>
-    requires { at ≤ length words.now }
     ensures { PlaceEnds words.now at places result }
 {
-    let head = Head::read(&words[at..])?;
+    let head = Head::read(words.get(at..)?)?;
     let moves = &words[at + 3..];
     let count = head.moves as usize;
     if moves.len() < count || !all_below(&moves[0..count], places) {

@@ -24,9 +24,8 @@ pub(crate) fn run(rt: &HostRuntime, job: Job) -> Result<(), Fault> {
     let Some(answer) = solved(heap, words, answer.as_mut_slice())? else {
         return Err(Fault::NoGame { file: job.file });
     };
-    let mut low = vec![in heap; 0; places]?;
-    let mut high = vec![in heap; 0; places]?;
-    let Some(board) = Board::new(words, answer, low.as_mut_slice(), high.as_mut_slice()) else {
+    let mut starts = vec![in heap; [0, 0]; places]?;
+    let Some(board) = Board::new(words, answer, starts.as_mut_slice()) else {
         return Err(Fault::NoGame { file: job.file });
     };
     start(rt, job, board, drawing.names.as_slice())

@@ -4,7 +4,7 @@ use Rattle.std.proofs.lemmas.List.{drop_more, drop-drop, drop_all, append-nil, a
 use Rattle.std.proofs.lemmas.Bool.{le-ltb}
 use Rattle.endless.specs.Games.{Place, Game, row, some_of, pick, weight, other}
 use Rattle.endless.specs.Graph.{moves, Reading}
-use Rattle.endless.proofs.Reading.{here}
+use Rattle.endless.proofs.Reading.{front_many, reading_next}
 use Rattle.ends.specs.declared.mend.Copied.{Copied}
 use Rattle.ends.specs.Ends.{ReadsEnds, mended, made_from, made}
 use Rattle.ends.specs.Says.{told}
@@ -26,9 +26,8 @@ head_words s at h = sym (take_rest s at) ∙ three_front (Slice s at) h ∙ ap (
 -- the words behind a place of a game
 next_place : (s : List ℕ) (at w k m : ℕ) (rest : List ℕ) → drop at s ≡ w ∷ k ∷ m ∷ rest → (g : Game) (i : ℕ) → i < length g → Reading s g i at → Reading s g (i + 1) (at + (3 + m))
 next_place s at w k m rest e g i h r =
-    let t = here s g i at h r in
-    let same : length (moves g i) ≡ m = sym t.many ∙ ap (λ (l : List ℕ). get_or l 2 0) (take_rest s at ∙ e) in
-    subst (λ (x : ℕ). Reading s g (i + 1) (at + (3 + x))) same t.next
+    let same : length (moves g i) ≡ m = sym (front_many g i h) ∙ ap (λ (l : List ℕ). get_or l 2 0) (sym r.left ∙ e) in
+    subst (λ (x : ℕ). Reading s g (i + 1) (at + (3 + x))) same (reading_next s g i at h r)
 
 -- ---- one place copied
 

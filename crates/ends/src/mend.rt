@@ -24,10 +24,9 @@ pub(crate) fn mend(words: &[u32], made: &mut [u32]) -> Option<usize>
     made[0] = *places;
     let mut at = 1;
     let mut to = 1;
+    // A loop: `try_fold` would carry both positions as a pair and write through its closure.
     for index in 0..*places {
-        let Some(copied) = copy_place(words, at, index, made, to) else {
-            return None;
-        };
+        let copied = copy_place(words, at, index, made, to)?;
         at += copied.read;
         to += copied.written;
     }
@@ -82,6 +81,7 @@ fn read_head(words: &[u32], at: usize) -> Option<HeadWords>
 
 /// The weight of a place without moves once it has one to itself: of the kind
 /// of the side that is not to move there.
+// Any word and not a `Side`: whether it names one is looked at later, with the rest of the game.
 fn end_weight(whose: u32) -> u32
     ensures { result ≡ other whose }
 {

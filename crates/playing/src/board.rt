@@ -8,6 +8,7 @@ ghost use Rattle.playing.specs.Boards.{Answered};
 
 use endless::answer::PlaceId;
 use endless::graph::Places;
+use endless::positions::Halves;
 use endless::side::Side;
 use endless::{answer, is_game};
 use std::marker::Model;
@@ -42,43 +43,34 @@ impl<'a> Model for Board<'a> {
 
 impl<'a> Board<'a> {
     /// Solves the game that these words are. The other words are lent: two
-    /// for each place for `answer`, one for each place for `low` and `high`,
-    /// and for `work` what the solver asks for. `None` where the words are no
-    /// game, or too few are lent.
+    /// for each place for `answer` and for `starts`, and for `work` what the
+    /// solver asks for. `None` where the words are no game, or too few are lent.
     pub fn solve(
         words: &'a [u32],
         answer: &'a mut [u32],
         work: &mut [u32],
-        low: &'a mut [u32],
-        high: &'a mut [u32],
+        starts: &'a mut [Halves],
     ) -> Option<Board<'a>>
         ensures { IfSome result (λ b. Reads words.now b.game × Answered b.game b.answer) }
     {
         let answer = solve(words, answer, work)?;
-        Board::new(words, answer, low, high)
+        Board::new(words, answer, starts)
     }
 
     /// A board of the game that these words are, with an answer to it, as
-    /// `solve` gives one. The other words are lent, one for each place for
-    /// `low` and for `high`. `None` where the words are no game, or too few or
-    /// too many are lent.
-    pub fn new(
-        words: &'a [u32],
-        answer: &'a [u32],
-        low: &'a mut [u32],
-        high: &'a mut [u32],
-    ) -> Option<Board<'a>>
+    /// `solve` gives one. `starts` is lent, with one position for each place.
+    /// `None` where the words are no game, or too few or too many are lent.
+    pub fn new(words: &'a [u32], answer: &'a [u32], starts: &'a mut [Halves]) -> Option<Board<'a>>
         ensures game { IfSome result (λ b. Reads words.now b.game) }
         ensures answer { IfSome result (λ b. b.answer ≡ answer.now) }
     {
         if !is_game(words) {
             return None;
         }
-        let many = words[0] as usize;
-        if low.len() != many || high.len() != many {
+        if starts.len() != words[0] as usize {
             return None;
         }
-        let places = Places::new(words, low, high);
+        let places = Places::new(words, starts);
         Some(Board { places, answer })
     }
 
@@ -102,7 +94,7 @@ impl<'a> Board<'a> {
         requires { place < length self.now.game }
         ensures { result ≡ weight self.now.game place }
     {
-        self.places.head(place).weight as u8
+        self.places.weight(place) as u8
     }
 
     /// Where one may move from a place: at least one place.

@@ -99,9 +99,8 @@ pub(crate) fn run(rt: &HostRuntime, file: &str, count: u64) -> Result<(), Fault>
     let Some(answer) = solved(heap, words, answer.as_mut_slice())? else {
         return Err(Fault::NoGame);
     };
-    let mut low = vec![in heap; 0; places]?;
-    let mut high = vec![in heap; 0; places]?;
-    let Some(board) = Board::new(words, answer, low.as_mut_slice(), high.as_mut_slice()) else {
+    let mut starts = vec![in heap; [0, 0]; places]?;
+    let Some(board) = Board::new(words, answer, starts.as_mut_slice()) else {
         return Err(Fault::NoGame);
     };
     if board.len() == 0 {

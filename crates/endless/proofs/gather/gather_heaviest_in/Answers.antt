@@ -1,7 +1,7 @@
 use Rattle.std.proofs.Common.{arith}
 use Rattle.endless.proofs.Gathering.{gathering_inside, gathering_room, giving_skip, giving_take, giving_all}
 use Rattle.endless.proofs.gather.gather_heaviest_in.Goals as goal
-use Rattle.endless.proofs.gather.gather_heaviest_in.Goals.{then-head-heaviest, else-head-heaviest}
+use Rattle.endless.proofs.gather.gather_heaviest_in.Goals.{then-weight-heaviest, else-weight-heaviest}
 
 pub take_place-requires-clause-place : goal.take_place-requires-clause-place
 take_place-requires-clause-place c = c.requires.inside c.in-Some.place (gathering_inside c.loop-place.invariant.gathers c.in-Some.ensures)
@@ -15,10 +15,10 @@ loop-place-preserved c =
     let least = c.in-Some.ensures in
     let mine = gathering_inside k least in
     let room = gathering_room k least in
-    elim c.if-head-heaviest.branch [
-      | then-head-heaviest t ↦ rw (t.left-is, t.queue-is, t.out-is, t.count-is)
-          (giving_take c.loop-place.invariant least c.head.ensures.weight t.if-head-heaviest.true (omega arith) (omega (arith, c.requires.inside c.in-Some.place mine, c.requires.answers)) mine t.take_place.ensures)
-      | else-head-heaviest t ↦ rw (t.left-is, t.queue-is, t.out-is, t.count-is) (giving_skip c.loop-place.invariant least c.head.ensures.weight t.if-head-heaviest.false)
+    elim c.if-weight-heaviest.branch [
+      | then-weight-heaviest t ↦ rw (t.left-is, t.queue-is, t.out-is, t.count-is)
+          (giving_take c.loop-place.invariant least c.weight.ensures.weight t.if-weight-heaviest.true (omega arith) (omega (arith, c.requires.inside c.in-Some.place mine, c.requires.answers)) mine t.take_place.ensures)
+      | else-weight-heaviest t ↦ rw (t.left-is, t.queue-is, t.out-is, t.count-is) (giving_skip c.loop-place.invariant least c.weight.ensures.weight t.if-weight-heaviest.false)
     ]
 
 pub returns-clause-gathered : goal.returns-clause-gathered

@@ -10,7 +10,7 @@ loop-place-preserved c =
     let least = subst (λ (l : List ℕ). Least (members l) c.loop-place.place-iterator.from c.in-Some.place) same step.1.0 in (
       step.0 ∙ same,
       subst (λ (i : ℕ). Weighing c.args.graph.now c.args.set.now i c.max-heaviest.result) (sym step.1.1)
-          (weighing_more c.loop-place.invariant.1 least c.head.ensures.weight c.max-heaviest.ensures),
+          (weighing_more c.loop-place.invariant.1 least c.weight.ensures.weight c.max-heaviest.ensures),
     )
 
 pub returns : goal.returns

@@ -1,5 +1,6 @@
-use Rattle.std.proofs.Common.{get_or, refl, arith, rules}
+use Rattle.std.proofs.Common.{get_or, sym, refl, subst, arith, rules}
 use Rattle.std.proofs.lemmas.List.{length-set}
+use Rattle.ends.specs.Mending.{MendedIs}
 use Rattle.ends.proofs.Mending.{told_small, mending_none, mending_more, mending_stops, mending_all, mending_behind}
 use Rattle.ends.proofs.mend.mend.Goals as goal
 
@@ -12,20 +13,21 @@ copy_place-requires c =
     let t = told_small c.args.words.now (get_or c.args.words.now 0 0) refl c.if-places-gt-MOST_PLACES.false in
     (m.within, omega (arith, m.room, t, c.requires, c.loop-index-test.true, c.loop-index.auto.made, length-set c.args.made.now 0 (get_or c.args.words.now 0 0)))
 
-pub returns-in_default-copy_place : goal.returns-in_default-copy_place
-returns-in_default-copy_place c =
-    mending_stops c.args.words.now c.loop-index.made (get_or c.args.words.now 0 0) c.loop-index.index c.loop-index.at c.loop-index.to c.loop-index-test.true refl c.loop-index.invariant c.in_default-copy_place.ensures
+pub returns-in_err-copied : goal.returns-in_err-copied
+returns-in_err-copied c =
+    subst (MendedIs c.args.words.now c.copy_place.new.made) (sym c.from_residual.ensures)
+    (mending_stops c.args.words.now c.loop-index.made (get_or c.args.words.now 0 0) c.loop-index.index c.loop-index.at c.loop-index.to c.loop-index-test.true refl c.loop-index.invariant c.in_err-copied.ensures)
 
 pub overflow_add-to : goal.overflow_add-to
 overflow_add-to c =
     let m = c.loop-index.invariant in
-    let k = c.in-Some.ensures in
+    let k = c.in_ok-copied.ensures in
     let t = told_small c.args.words.now (get_or c.args.words.now 0 0) refl c.if-places-gt-MOST_PLACES.false in
     search (rules, m.room, k.longer, k.within, t, c.requires, c.loop-index-test.true)
 
 pub loop-index-preserved : goal.loop-index-preserved
 loop-index-preserved c =
-    mending_more c.args.words.now c.loop-index.made (get_or c.args.words.now 0 0) c.loop-index.index c.loop-index.at c.loop-index.to c.copy_place.new.made c.in-Some.copied c.loop-index-test.true refl c.loop-index.invariant c.in-Some.ensures
+    mending_more c.args.words.now c.loop-index.made (get_or c.args.words.now 0 0) c.loop-index.index c.loop-index.at c.loop-index.to c.copy_place.new.made c.in_ok-copied.copied c.loop-index-test.true refl c.loop-index.invariant c.in_ok-copied.ensures
 
 pub returns-then-at-words : goal.returns-then-at-words
 returns-then-at-words c =

@@ -1,18 +1,25 @@
-use Rattle.std.proofs.Common.{length, ap, arith}
-use Rattle.endless.proofs.PositionLaws.{positions_within}
-use Rattle.endless.proofs.Reading.{some_head, own_head}
-use Rattle.endless.proofs.View.{playable, shown, start_of}
+use Rattle.std.proofs.Common.{length, get_or, sym, ap, ◌∙◌, arith}
+use Rattle.endless.proofs.Places.{side_below}
+use Rattle.endless.proofs.Reading.{front_owner, front_weighs, front_many, front_long}
 use Rattle.endless.proofs.graph.Places.head.Goals as goal
 
-pub position-at-requires : goal.position-at-requires
-position-at-requires c = positions_within _ _ c.args.n (omega (arith, ap length c.self.view_is))
+pub read-head-requires : goal.read-head-requires
+read-head-requires c = omega (arith, ap length c.words_from.ensures.are, front_long c.args.self.now c.args.n c.requires)
 
-pub unreachable-requires : goal.unreachable-requires
-unreachable-requires c =
-    some_head _ _ c.args.n _ c.requires (start_of c.self.view_is c.self.invariant c.requires c.position-at.ensures)
-    (shown c.self.view_is c.self.invariant).reads c.in-None.ensures
+pub returns-then-head-eq0 : goal.returns-then-head-eq0
+returns-then-head-eq0 c = record {
+  whose = sym c.if-head-eq0.true ∙ c.read-head.ensures.whose ∙ ap (λ l. get_or l 0 0) c.words_from.ensures.are ∙ front_owner c.args.self.now c.args.n c.requires;
+  weight = c.read-head.ensures.weight ∙ ap (λ l. get_or l 1 0) c.words_from.ensures.are ∙ front_weighs c.args.self.now c.args.n c.requires;
+  moves = c.read-head.ensures.moves ∙ ap (λ l. get_or l 2 0) c.words_from.ensures.are ∙ front_many c.args.self.now c.args.n c.requires;
+  playable = c.words_from.ensures.playable;
+}
 
-pub returns : goal.returns
-returns c =
-    let own = own_head _ _ c.args.n _ c.requires (start_of c.self.view_is c.self.invariant c.requires c.position-at.ensures) c.in-Some.head c.in-Some.ensures in
-    record { whose = own.0; weight = own.1; moves = own.2; playable = playable (shown c.self.view_is c.self.invariant).reads }
+pub returns-else-head-eq0 : goal.returns-else-head-eq0
+returns-else-head-eq0 c =
+    let owner = c.read-head.ensures.whose ∙ ap (λ l. get_or l 0 0) c.words_from.ensures.are ∙ front_owner c.args.self.now c.args.n c.requires in
+    record {
+      whose = omega (arith, owner, side_below c.words_from.ensures.playable c.args.n);
+      weight = c.read-head.ensures.weight ∙ ap (λ l. get_or l 1 0) c.words_from.ensures.are ∙ front_weighs c.args.self.now c.args.n c.requires;
+      moves = c.read-head.ensures.moves ∙ ap (λ l. get_or l 2 0) c.words_from.ensures.are ∙ front_many c.args.self.now c.args.n c.requires;
+      playable = c.words_from.ensures.playable;
+    }
