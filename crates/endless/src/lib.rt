@@ -31,6 +31,7 @@ mod ranking;
 pub mod ranks;
 pub mod reach;
 pub mod refusal;
+mod search_back;
 pub mod side;
 pub mod verdict;
 pub mod weights;

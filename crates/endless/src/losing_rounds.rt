@@ -8,12 +8,11 @@ ghost use Rattle.endless.specs.Sets.{Set, In};
 ghost use Rattle.endless.specs.Sides.{number};
 ghost use Rattle.endless.specs.Bits.{members, size};
 ghost use Rattle.endless.specs.View.{Playable};
-ghost use Rattle.endless.specs.Pulling.{Moved};
 ghost use Rattle.endless.specs.Flaws.{Walk, NoRoundOf, RoundOf, RoundsWon, LosesRound};
-ghost use Rattle.endless.specs.Tracing.{Visited, Searched, Traces};
 
 use crate::bits;
 use crate::claim::Claim;
+use crate::search_back::SearchBack;
 
 impl Claim<'_> {
     /// Whether the plan allows the move from `from` to `to`.
@@ -24,78 +23,6 @@ impl Claim<'_> {
         !self.graph.is_own(self.side, from) || self.answer[2 * from as usize + 1] == to
     }
 
-    /// Looks at `from`, which may move to `to`: it is taken from what is left
-    /// into the queue if it is not heavier than `heaviest` and the plan allows
-    /// that move. The number of places in the queue then.
-    fn visit(
-        &self,
-        heaviest: u32,
-        from: u32,
-        to: u32,
-        left: &mut [u32],
-        queue: &mut [u32],
-        tail: usize,
-    ) -> usize
-        requires from { from < length self.now.graph.now }
-        requires sets { length self.now.graph.now ≤ 32 * length left.old }
-        requires room { tail + size left.old ≤ length queue.old }
-        ensures { Visited self.now.graph.now (number self.now.side) (goes self.now.answer.now) heaviest from to tail left.old queue.old left.new queue.new result }
-    {
-        if !bits::has(left, from) {
-            return tail;
-        }
-        if self.graph.head(from).weight > heaviest {
-            return tail;
-        }
-        if !self.allows(from, to) {
-            return tail;
-        }
-        bits::remove(left, from);
-        queue[tail] = from;
-        tail + 1
-    }
-
-    /// Looks at all places that may move to `to`.
-    fn visit_all(
-        &self,
-        heaviest: u32,
-        to: u32,
-        left: &mut [u32],
-        queue: &mut [u32],
-        filled: usize,
-    ) -> usize
-        requires to { to < length self.now.graph.now }
-        requires sets { length self.now.graph.now ≤ 32 * length left.old }
-        requires room { filled + size left.old ≤ length queue.old }
-        ensures moved { Moved left.old queue.old self.now.answer.now filled left.new queue.new self.now.answer.now result }
-        ensures searched { Searched self.now.graph.now (number self.now.side) (goes self.now.answer.now) heaviest to left.old queue.old filled left.new queue.new result }
-    {
-        let mut tail = filled;
-        for from in self.graph.preds(to) {
-            tail = self.visit(heaviest, *from, to, left, queue, tail);
-        }
-        tail
-    }
-
-    /// Takes from what is left all places from which plays by the plan can come,
-    /// by one move or more past places not heavier than `heaviest`, to the place
-    /// that stands first in the queue.
-    fn trace(&self, heaviest: u32, left: &mut [u32], queue: &mut [u32])
-        requires inside { (n : ℕ) → In (members left.old) n → n < length self.now.graph.now }
-        requires first { slice_index queue.old 0 < length self.now.graph.now }
-        requires sets { length self.now.graph.now ≤ 32 * length left.old }
-        requires room { 1 + size left.old ≤ length queue.old }
-        ensures { Traces self.now.graph.now (members left.old) (number self.now.side) (goes self.now.answer.now) heaviest (slice_index queue.old 0) (members left.new) }
-    {
-        let mut head = 0;
-        let mut tail = 1;
-        while head < tail {
-            let to = queue[head];
-            head += 1;
-            tail = self.visit_all(heaviest, to, left, queue, tail);
-        }
-    }
-
     /// Whether a play by the plan can go from `place` through places of the set,
     /// none of them heavier than `heaviest`, back to `place`.
     fn comes_back(&self, heaviest: u32, place: u32, left: &mut [u32], queue: &mut [u32]) -> bool
@@ -104,10 +31,9 @@ impl Claim<'_> {
         requires room { 1 + size self.now.set.now ≤ length queue.old }
         ensures { In (members self.now.set.now) place → (T result ↔ Walk self.now.graph.now (members self.now.set.now) (number self.now.side) (goes self.now.answer.now) heaviest place place) }
     {
-        bits::copy(self.set, left);
-        queue[0] = place;
-        self.trace(heaviest, left, queue);
-        !bits::has(left, place)
+        let mut search = SearchBack::new(*self, heaviest, place, left, queue);
+        search.trace();
+        search.has_found(place)
     }
 
     /// Whether some place of the set has this weight.
