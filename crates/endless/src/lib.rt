@@ -17,6 +17,7 @@ pub mod claim;
 pub mod closed;
 mod components;
 pub mod dominion;
+pub mod examination;
 pub mod flaw;
 pub mod gather;
 pub mod graph;

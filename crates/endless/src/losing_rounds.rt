@@ -12,6 +12,7 @@ ghost use Rattle.endless.specs.Flaws.{Walk, NoRoundOf, RoundOf, RoundsWon, Loses
 
 use crate::bits;
 use crate::claim::Claim;
+use crate::examination::Examination;
 use crate::search_back::SearchBack;
 
 impl Claim<'_> {
@@ -21,19 +22,6 @@ impl Claim<'_> {
         ensures { T result ↔ (whose self.now.graph.now from ≡ number self.now.side → to ≡ goes self.now.answer.now from) }
     {
         !self.graph.is_own(self.side, from) || self.answer[2 * from as usize + 1] == to
-    }
-
-    /// Whether a play by the plan can go from `place` through places of the set,
-    /// none of them heavier than `heaviest`, back to `place`.
-    fn comes_back(&self, heaviest: u32, place: u32, left: &mut [u32], queue: &mut [u32]) -> bool
-        requires place { place < length self.now.graph.now }
-        requires same { length left.old ≡ length self.now.set.now }
-        requires room { 1 + size self.now.set.now ≤ length queue.old }
-        ensures { In (members self.now.set.now) place → (T result ↔ Walk self.now.graph.now (members self.now.set.now) (number self.now.side) (goes self.now.answer.now) heaviest place place) }
-    {
-        let mut search = SearchBack::new(*self, heaviest, place, left, queue);
-        search.trace();
-        search.has_found(place)
     }
 
     /// Whether some place of the set has this weight.
@@ -47,17 +35,31 @@ impl Claim<'_> {
         }
         false
     }
+}
+
+impl Examination<'_, '_> {
+    /// Whether a play by the plan can go from `place` through places of the set,
+    /// none of them heavier than `heaviest`, back to `place`.
+    fn comes_back(&mut self, heaviest: u32, place: u32) -> bool
+        requires place { place < length self.old.claim.graph.now }
+        ensures same { self.new.claim ≡ self.old.claim }
+        ensures back { let c = self.old.claim in In (members c.set.now) place → (T result ↔ Walk c.graph.now (members c.set.now) (number c.side) (goes c.answer.now) heaviest place place) }
+    {
+        let mut search = SearchBack::new(self.claim, heaviest, place, self.left, self.queue);
+        search.trace();
+        search.has_found(place)
+    }
 
     /// A place of weight `heaviest` from which a play by the plan can come back
     /// past none that is heavier: each is searched from.
-    fn search_each(&self, heaviest: u32, left: &mut [u32], queue: &mut [u32]) -> Option<u32>
-        requires same { length left.old ≡ length self.now.set.now }
-        requires room { 1 + size self.now.set.now ≤ length queue.old }
-        ensures { MatchOption result (NoRoundOf self.now.graph.now (members self.now.set.now) (number self.now.side) (goes self.now.answer.now) heaviest) (λ n. RoundOf self.now.graph.now (members self.now.set.now) (number self.now.side) (goes self.now.answer.now) heaviest n) }
+    fn search_each(&mut self, heaviest: u32) -> Option<u32>
+        ensures same { self.new.claim ≡ self.old.claim }
+        ensures found { let c = self.old.claim in MatchOption result (NoRoundOf c.graph.now (members c.set.now) (number c.side) (goes c.answer.now) heaviest) (λ n. RoundOf c.graph.now (members c.set.now) (number c.side) (goes c.answer.now) heaviest n) }
     {
-        for place in bits::iter(self.set) {
-            if self.graph.head(place).weight == heaviest {
-                if self.comes_back(heaviest, place, left, queue) {
+        let claim = self.claim;
+        for place in bits::iter(claim.set) {
+            if claim.graph.head(place).weight == heaviest {
+                if self.comes_back(heaviest, place) {
                     return Some(place);
                 }
             }
@@ -69,51 +71,34 @@ impl Claim<'_> {
     /// past none that is heavier. Ranks that show that there is none are proposed
     /// and looked at first; where they do not, the place at which they fail is
     /// tried before all others.
-    fn round_of_weight(
-        &self,
-        heaviest: u32,
-        left: &mut [u32],
-        queue: &mut [u32],
-        ranks: &mut [u32],
-        lent: &mut [u32],
-    ) -> Option<u32>
-        requires ranks { length self.now.graph.now ≤ length ranks.old }
-        requires same { length left.old ≡ length self.now.set.now }
-        requires room { 1 + size self.now.set.now ≤ length queue.old }
-        ensures { MatchOption result (NoRoundOf self.now.graph.now (members self.now.set.now) (number self.now.side) (goes self.now.answer.now) heaviest) (λ n. RoundOf self.now.graph.now (members self.now.set.now) (number self.now.side) (goes self.now.answer.now) heaviest n) }
+    fn round_of_weight(&mut self, heaviest: u32) -> Option<u32>
+        ensures same { self.new.claim ≡ self.old.claim }
+        ensures found { let c = self.old.claim in MatchOption result (NoRoundOf c.graph.now (members c.set.now) (number c.side) (goes c.answer.now) heaviest) (λ n. RoundOf c.graph.now (members c.set.now) (number c.side) (goes c.answer.now) heaviest n) }
     {
-        self.propose(heaviest, ranks, lent);
-        let Some(place) = self.first_rise(heaviest, ranks) else {
+        let claim = self.claim;
+        claim.propose(heaviest, self.ranks, self.lent);
+        let Some(place) = claim.first_rise(heaviest, self.ranks) else {
             return None;
         };
-        if self.graph.head(place).weight == heaviest {
-            if self.comes_back(heaviest, place, left, queue) {
+        if claim.graph.head(place).weight == heaviest {
+            if self.comes_back(heaviest, place) {
                 return Some(place);
             }
         }
-        self.search_each(heaviest, left, queue)
+        self.search_each(heaviest)
     }
 
     /// A place of the set through which the plan allows a round that the other
-    /// side wins, with that place's weight as the heaviest. `left`, `queue`,
-    /// `ranks` and `lent` hold anything before and after.
-    pub fn losing_round(
-        &self,
-        left: &mut [u32],
-        queue: &mut [u32],
-        ranks: &mut [u32],
-        lent: &mut [u32],
-    ) -> Option<u32>
-        requires playable { Playable self.now.graph.now }
-        requires ranks { length self.now.graph.now ≤ length ranks.old }
-        requires same { length left.old ≡ length self.now.set.now }
-        requires room { 1 + size self.now.set.now ≤ length queue.old }
-        ensures { MatchOption result (RoundsWon self.now.graph.now (members self.now.set.now) (number self.now.side) (goes self.now.answer.now)) (λ n. In (members self.now.set.now) n × LosesRound self.now.graph.now (members self.now.set.now) (number self.now.side) (goes self.now.answer.now) n (weigh self.now.graph.now n)) }
+    /// side wins, with that place's weight as the heaviest.
+    pub fn losing_round(&mut self) -> Option<u32>
+        ensures same { self.new.claim ≡ self.old.claim }
+        ensures found { let c = self.old.claim in MatchOption result (RoundsWon c.graph.now (members c.set.now) (number c.side) (goes c.answer.now)) (λ n. In (members c.set.now) n × LosesRound c.graph.now (members c.set.now) (number c.side) (goes c.answer.now) n (weigh c.graph.now n)) }
     {
+        let claim = self.claim;
         for weight in 0..256 {
-            if weight % 2 != self.side.to_word() {
-                if self.occurs(weight) {
-                    if let Some(place) = self.round_of_weight(weight, left, queue, ranks, lent) {
+            if weight % 2 != claim.side.to_word() {
+                if claim.occurs(weight) {
+                    if let Some(place) = self.round_of_weight(weight) {
                         return Some(place);
                     }
                 }
