@@ -1,11 +1,10 @@
 //! Whether a side holds a set of places of a subgame by a plan.
-ghost use Rattle.std.specs.Prelude.{◌≡◌, ℕ, ◌+◌, ◌*◌, ◌^◌, ◌<◌, ◌≤◌, length, MatchResult};
+ghost use Rattle.std.specs.Prelude.{◌≡◌, ◌<◌, length, MatchResult};
 ghost use Rattle.endless.specs.Says.{goes};
-ghost use Rattle.endless.specs.Sets.{In, Within};
+ghost use Rattle.endless.specs.Sets.{Within};
 ghost use Rattle.endless.specs.Subgames.{Holds};
 ghost use Rattle.endless.specs.Sides.{number};
-ghost use Rattle.endless.specs.Bits.{members, size};
-ghost use Rattle.endless.specs.View.{Playable};
+ghost use Rattle.endless.specs.Bits.{members};
 ghost use Rattle.endless.specs.Flaws.{FlawIs};
 
 use crate::answer::PlaceId;

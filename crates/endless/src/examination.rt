@@ -1,5 +1,5 @@
 //! A claim that is looked at, and what is lent for that.
-ghost use Rattle.std.specs.Prelude.{◌≡◌, ℕ, ◌+◌, ◌≤◌, length};
+ghost use Rattle.std.specs.Prelude.{◌≡◌, ◌+◌, ◌≤◌, length};
 ghost use Rattle.endless.specs.Bits.{size};
 ghost use Rattle.endless.specs.View.{Playable};
 

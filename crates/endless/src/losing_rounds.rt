@@ -1,13 +1,12 @@
 //! Whether a plan allows a round that the other side wins: for each weight of
 //! that side's kind ranks show that there is none, or a search back from the
 //! places of that weight decides.
-ghost use Rattle.std.specs.Prelude.{◌≡◌, ℕ, ◌+◌, ◌*◌, ◌^◌, ◌<◌, ◌≤◌, false, T, ◌↔◌, length, MatchOption, ◌≢◌, slice_index};
+ghost use Rattle.std.specs.Prelude.{◌≡◌, ℕ, ◌+◌, ◌*◌, ◌<◌, false, T, ◌↔◌, length, MatchOption, ◌≢◌};
 ghost use Rattle.endless.specs.Games.{whose, weight as weigh};
 ghost use Rattle.endless.specs.Says.{goes};
-ghost use Rattle.endless.specs.Sets.{Set, In};
+ghost use Rattle.endless.specs.Sets.{In};
 ghost use Rattle.endless.specs.Sides.{number};
-ghost use Rattle.endless.specs.Bits.{members, size};
-ghost use Rattle.endless.specs.View.{Playable};
+ghost use Rattle.endless.specs.Bits.{members};
 ghost use Rattle.endless.specs.Flaws.{Walk, NoRoundOf, RoundOf, RoundsWon, LosesRound};
 
 use crate::bits;

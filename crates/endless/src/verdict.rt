@@ -3,8 +3,8 @@
 ghost use Rattle.std.specs.Prelude.{◌≡◌, ℕ, ◌+◌, ◌*◌, ◌<◌, ◌≤◌, ◌↔◌, length, MatchOption, MatchResult, slice_index};
 ghost use Rattle.endless.specs.Games.{Game, Reads};
 ghost use Rattle.endless.specs.Says.{side, goes};
-ghost use Rattle.endless.specs.Sets.{In, whole, having};
-ghost use Rattle.endless.specs.Subgames.{Holds, Solves};
+ghost use Rattle.endless.specs.Sets.{In, whole};
+ghost use Rattle.endless.specs.Subgames.{Solves};
 ghost use Rattle.endless.specs.Sides.{number};
 ghost use Rattle.endless.specs.Bits.{members};
 ghost use Rattle.endless.specs.Checked.{Tabled, ReasonIs, SideChecked, CheckedPost};
