@@ -11,7 +11,7 @@ ghost use Rattle.endless.specs.Checked.{Tabled, ReasonIs, SideChecked, CheckedPo
 ghost use Rattle.endless.specs.declared.verdict.Reason.TheVariants as reasons;
 ghost use Rattle.endless.specs.declared.verdict.Rejection.TheVariants.{Refused, Wrong};
 
-use crate::answer::PlaceId;
+use crate::answer::{PlaceId, won_by};
 use crate::claim::Claim;
 use crate::examination::Examination;
 use crate::flaw::Flaw;
@@ -80,10 +80,9 @@ pub fn check(words: &[u32], answer: &[u32], work: &mut [u32]) -> Result<(), Reje
 
 /// The first place that the answer gives to neither side.
 fn first_sideless(answer: &[u32], places: u32) -> Option<u32>
-    requires { 2 * places ≤ length answer.now }
-    ensures { MatchOption result ((n : ℕ) → n < places → slice_index answer.now (2 * n) < 2) (λ n. (n < places) × (2 ≤ slice_index answer.now (2 * n))) }
+    ensures { MatchOption result ((n : ℕ) → n < places → side answer.now n < 2) (λ n. (n < places) × (2 ≤ side answer.now n)) }
 {
-    (0..places).find(|place| answer[2 * *place as usize] >= 2)
+    (0..places).find(|place| won_by(answer, PlaceId(*place)).is_none())
 }
 
 /// Makes the set the places that the answer gives to `side`.
