@@ -2,7 +2,7 @@
 //! how it was found.
 ghost use Rattle.std.specs.Prelude.{◌≡◌, ℕ, ◌+◌, ◌*◌, ◌<◌, ◌≤◌, ◌↔◌, length, MatchOption, MatchResult, slice_index};
 ghost use Rattle.endless.specs.Games.{Game, Reads};
-ghost use Rattle.endless.specs.Says.{side, goes};
+ghost use Rattle.endless.specs.Says.{side as says, goes};
 ghost use Rattle.endless.specs.Sets.{In, whole};
 ghost use Rattle.endless.specs.Subgames.{Solves};
 ghost use Rattle.endless.specs.Sides.{number};
@@ -11,7 +11,7 @@ ghost use Rattle.endless.specs.Checked.{Tabled, ReasonIs, SideChecked, CheckedPo
 ghost use Rattle.endless.specs.declared.verdict.Reason.TheVariants as reasons;
 ghost use Rattle.endless.specs.declared.verdict.Rejection.TheVariants.{Refused, Wrong};
 
-use crate::answer::{PlaceId, won_by};
+use crate::answer::{PlaceId, Winner, won_by};
 use crate::claim::Claim;
 use crate::examination::Examination;
 use crate::flaw::Flaw;
@@ -80,20 +80,19 @@ pub fn check(words: &[u32], answer: &[u32], work: &mut [u32]) -> Result<(), Reje
 
 /// The first place that the answer gives to neither side.
 fn first_sideless(answer: &[u32], places: u32) -> Option<u32>
-    ensures { MatchOption result ((n : ℕ) → n < places → side answer.now n < 2) (λ n. (n < places) × (2 ≤ side answer.now n)) }
+    ensures { MatchOption result ((n : ℕ) → n < places → says answer.now n < 2) (λ n. (n < places) × (2 ≤ says answer.now n)) }
 {
     (0..places).find(|place| won_by(answer, PlaceId(*place)).is_none())
 }
 
 /// Makes the set the places that the answer gives to `side`.
 fn gather_given(answer: &[u32], side: Side, places: u32, set: &mut [u32])
-    requires answers { 2 * places ≤ length answer.now }
-    requires room { places ≤ 32 * length set.old }
-    ensures { (j : ℕ) → (In (members set.new) j ↔ ((j < places) × (slice_index answer.now (2 * j) ≡ number side))) }
+    requires { places ≤ 32 * length set.old }
+    ensures { (j : ℕ) → (In (members set.new) j ↔ ((j < places) × (says answer.now j ≡ number side))) }
 {
     bits::fill(set, 0);
     for place in 0..places {
-        if answer[2 * place as usize] == side.to_word() {
+        if won_by(answer, PlaceId(place)) == Some(Winner(side)) {
             bits::insert(set, place);
         }
     }
@@ -149,7 +148,7 @@ impl Checking<'_> {
 /// Whether an answer with two words for each place is one, or why not.
 fn check_game<'a>(words: &'a [u32], answer: &'a [u32], work: &'a mut [u32]) -> Result<(), Reason>
     requires { (g : Game) × Reads words.now g × (2 * length g ≤ length answer.now) × (65536 + 4 * length words.now ≤ length work.old) }
-    ensures { (g : Game) → Reads words.now g → MatchResult result (λ _. Solves g (whole g) (side answer.now) (goes answer.now)) (λ reason. ReasonIs g answer.now reason) }
+    ensures { (g : Game) → Reads words.now g → MatchResult result (λ _. Solves g (whole g) (says answer.now) (goes answer.now)) (λ reason. ReasonIs g answer.now reason) }
 {
     if let Some(place) = first_sideless(answer, words[0]) {
         return Err(Reason::NoSide(PlaceId(place)));
