@@ -4,3 +4,4 @@ pub mod Games
 pub mod Claims
 pub mod Rounds
 pub mod Checked
+pub mod Sets

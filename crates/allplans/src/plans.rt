@@ -121,10 +121,7 @@ impl<'a> Plan<'a> {
     fn reached(self, heap: Global, start: usize, heaviest: u32) -> Result<PlaceSet, Fault> {
         let mut reached = PlaceSet::new(heap, self.game.len())?;
         let mut open = vec![in heap; start]?;
-        for _ in 0..=self.game.len() {
-            let Some(place) = open.pop() else {
-                break;
-            };
+        while let Some(place) = open.pop() {
             for to in self.moves(place) {
                 let to = *to as usize;
                 if self.weighs_at_most(to, heaviest) && reached.add(to) {

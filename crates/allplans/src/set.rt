@@ -1,4 +1,7 @@
 //! Sets of places.
+ghost use Rattle.std.specs.Prelude.{◌≡◌, ◌+◌, true, false};
+ghost use Rattle.allplans.specs.Sets.{missing};
+
 use std::alloc::{AllocError, Global};
 
 /// Some of the places of a game.
@@ -21,7 +24,10 @@ impl PlaceSet {
     }
 
     /// Adds a place of the game, and says whether it is new.
-    pub(crate) fn add(&mut self, place: usize) -> bool {
+    pub(crate) fn add(&mut self, place: usize) -> bool
+        ensures new { result ≡ true → missing self.new.marks.items + 1 ≡ missing self.old.marks.items }
+        ensures old { result ≡ false → missing self.new.marks.items ≡ missing self.old.marks.items }
+    {
         match self.marks.get_mut(place) {
             Some(mark) if !*mark => {
                 *mark = true;

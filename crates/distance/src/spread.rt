@@ -114,6 +114,7 @@ pub fn spread(graph: &Graph, side: Side, out: &mut [u32], queue: &mut [u32], awa
 {
     let mut head = 0;
     let mut tail = 1;
+    // The queue grows on the way, so that no iterator can borrow it.
     while head < tail {
         tail = pull_all(graph, side, queue[head], out, queue, awaited, tail);
         head += 1;

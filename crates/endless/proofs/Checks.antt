@@ -23,7 +23,6 @@ use Rattle.endless.proofs.Unique.{one_game}
 use Rattle.endless.proofs.Places.{not_other}
 use Rattle.endless.proofs.Sets.{whole_in, whole_place, having_in, having_within, having_is, each_map}
 use Rattle.endless.proofs.SetLaws.{size_sub}
-use Rattle.endless.proofs.Working.{side_at}
 use Rattle.endless.proofs.Steps.{holds_as, wins_holds, wins_as, solves_wins}
 use Rattle.endless.proofs.Layouts.{filled_whole, whole_filled}
 
@@ -45,16 +44,16 @@ first_below Yes No n (Some i) t = (t.1, t.2)
 
 -- the places below n that the answer gives to w
 abbrev pub GivenTo : List ℕ → ℕ → ℕ → List ℕ → Type 0
-GivenTo o w n set = (j : ℕ) → (In (members set) j ↔ ((j < n) × (get_or o (2 * j) 0 ≡ w)))
+GivenTo o w n set = (j : ℕ) → (In (members set) j ↔ ((j < n) × (side o j ≡ w)))
 
-module _ (g : Game) (o : List ℕ) (w n : ℕ) (all set : List ℕ) (are : (j : ℕ) → members all j ≡ ltb j (length g)) (many : n ≡ length g) (long : 2 * length g ≤ length o) (given : GivenTo o w n set) where
+module _ (g : Game) (o : List ℕ) (w n : ℕ) (all set : List ℕ) (are : (j : ℕ) → members all j ≡ ltb j (length g)) (many : n ≡ length g) (given : GivenTo o w n set) where
   given_having : Within (members set) (having (whole g) (side o) w)
-  given_having j x = let t = (given j).0 x in having_in (whole g) (side o) w j (whole_in g j (omega (arith, t.0))) (side_at o j (omega (arith, t.0)) ∙ t.1)
+  given_having j x = let t = (given j).0 x in having_in (whole g) (side o) w j (whole_in g j (omega (arith, t.0))) t.1
 
   having_given : Within (having (whole g) (side o) w) (members set)
   having_given j x =
       let l = whole_place g j (having_within (whole g) (side o) w j x) in
-      (given j).1 (omega arith, sym (side_at o j (omega arith)) ∙ having_is (whole g) (side o) w j x)
+      (given j).1 (omega arith, having_is (whole g) (side o) w j x)
 
   given_all : Within (members set) (members all)
   given_all j x = whole_filled g all are j (having_within (whole g) (side o) w j (given_having j x))

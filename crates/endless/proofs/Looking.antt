@@ -1,11 +1,15 @@
 -- Going through the places that may move to one.
-use Rattle.std.proofs.Common.{◌≡◌, ℕ, ◌+◌, ◌*◌, ◌<◌, ◌≤◌, List, length, get_or, drop, subst}
+use Rattle.std.proofs.Common.{◌≡◌, ℕ, ◌+◌, ◌*◌, ◌<◌, ◌≤◌, List, length, get_or, drop, ap, ◌∙◌, subst, arith, Bor}
 use Rattle.std.proofs.lemmas.List.{drop_more, drop_all}
 use Rattle.endless.specs.Games.{Game, Among, May}
 use Rattle.endless.specs.Sets.{Set, In, Out}
 use Rattle.endless.specs.Bits.{members, size}
 use Rattle.endless.specs.Graph.{sources}
-use Rattle.endless.specs.Pulling.{Working, Pulled, Moved, Looked}
+use Rattle.endless.specs.Sides.{number}
+use Rattle.endless.specs.Pulling.{Working, Pulled, Looked}
+use Rattle.endless.specs.Attraction.{Same, Pulls, Moves, Looks}
+use Rattle.endless.specs.declared.attractor.Attraction.{Attraction}
+use Rattle.endless.proofs.Places.{from_place}
 use Rattle.endless.proofs.Among.{at_among}
 use Rattle.endless.proofs.Sources.{preds_may}
 use Rattle.endless.proofs.Working.{moved_then, pulled_moves, working_step}
@@ -17,19 +21,39 @@ Lists g to items = items ≡ sources 0 g to
 pub may_at : (g : Game) (to : ℕ) (items : List ℕ) → Lists g to items → (i : ℕ) → i < length items → May g (get_or items i 0) to
 may_at g to items lists i l = (preds_may g to (get_or items i 0)).0 (subst (λ (x : List ℕ). Among (get_or items i 0) x) lists (at_among items i l))
 
+-- the graph and the side of an attractor that is being made stay throughout
+module _ (a b c : Attraction) (same : Same a b) where
+  pub same_then : Same b c → Same a c
+  same_then then = record { graph = then.graph ∙ same.graph; side = then.side ∙ same.side; left = then.left ∙ same.left; out = then.out ∙ same.out; queue = then.queue ∙ same.queue }
+
+  pulled : (from to : ℕ) → Pulls b from to c → Pulled a.graph.now (number a.side) from to b.tail b.left.now b.queue.now b.out.now c.left.now c.queue.now c.out.now c.tail
+  pulled from to p = rw (← same.graph, ← same.side) p
+
+  pub looked : (to : ℕ) → Looks b to c → Looked a.graph.now (number a.side) to b.left.now b.queue.now b.out.now b.tail c.left.now c.queue.now c.out.now c.tail
+  looked to l = rw (← same.graph, ← same.side) l
+
 -- i of them have been looked at
-pub record Looking (g : Game) (w to : ℕ) (items left queue out : List ℕ) (tail i : ℕ) (left' queue' out' : List ℕ) (tail' : ℕ) : Type 0 where
-  pub moved : Moved left queue out tail left' queue' out' tail'
-  pub works : (U D : Set) (head : ℕ) → In U to → Out (members left) to → Working g U w D left queue out head tail (sources 0 g to) → Working g U w D left' queue' out' head tail' (drop i items)
+pub record Looking (a : Attraction) (to : ℕ) (items : List ℕ) (i : ℕ) (b : Attraction) : Type 0 where
+  pub same : Same a b
+  pub moved : Moves a b
+  pub works : (U D : Set) (head : ℕ) → In U to → Out (members a.left.now) to → Working a.graph.now U (number a.side) D a.left.now a.queue.now a.out.now head a.tail (sources 0 a.graph.now to) → Working a.graph.now U (number a.side) D b.left.now b.queue.now b.out.now head b.tail (drop i items)
 
-module _ {g : Game} {w to : ℕ} {items left queue out : List ℕ} {tail i : ℕ} {l q o : List ℕ} {t : ℕ} (k : Looking g w to items left queue out tail i l q o t) where
-  pub looking_more : {l' q' o' : List ℕ} {t' : ℕ} → Lists g to items → i < length items → 2 * get_or items i 0 + 1 < length o → t + size l ≤ length q → Pulled g w (get_or items i 0) to t l q o l' q' o' t' → Looking g w to items left queue out tail (i + 1) l' q' o' t'
-  looking_more {l'} {q'} {o'} {t'} lists h room space p = record {
-    moved = moved_then left queue out tail l q o t l' q' o' t' k.moved (pulled_moves g w (get_or items i 0) to t l q o l' q' o' t' room space p);
-    works = λ U D head u out-to work.
-        let here = subst (λ (x : List ℕ). Working g U w D l q o head t x) (drop_more items i 0 h) (k.works U D head u out-to work) in
-        working_step g w (get_or items i 0) to t l q o l' q' o' U D head (drop (i + 1) items) (may_at g to items lists i h) u (λ x. out-to (k.moved.less to x)) here t' room space p;
-  }
+module _ {a b : Attraction} {to : ℕ} {items : List ℕ} {i : ℕ} (k : Looking a to items i b) where
+  pub looking_more : {c : Attraction} → Lists a.graph.now to items → i < length items → Same b c → Pulls b (get_or items i 0) to c → Looking a to items (i + 1) c
+  looking_more {c} lists h then pulls =
+      let g = a.graph.now in
+      let may = may_at g to items lists i h in
+      let room : 2 * get_or items i 0 + 1 < length b.out.now = omega (arith, from_place g (get_or items i 0) to may, b.sized.answers, ap (λ (x : Bor Game). length x.now) k.same.graph) in
+      let w = number a.side in
+      let p = pulled a b c k.same (get_or items i 0) to pulls in
+      record {
+        same = same_then a b c k.same then;
+        moved = moved_then a.left.now a.queue.now a.out.now a.tail b.left.now b.queue.now b.out.now b.tail c.left.now c.queue.now c.out.now c.tail k.moved
+            (pulled_moves g w (get_or items i 0) to b.tail b.left.now b.queue.now b.out.now c.left.now c.queue.now c.out.now c.tail room b.room p);
+        works = λ U D head u out-to work.
+            let here = subst (λ (x : List ℕ). Working g U w D b.left.now b.queue.now b.out.now head b.tail x) (drop_more items i 0 h) (k.works U D head u out-to work) in
+            working_step g w (get_or items i 0) to b.tail b.left.now b.queue.now b.out.now c.left.now c.queue.now c.out.now U D head (drop (i + 1) items) may u (λ x. out-to (k.moved.less to x)) here c.tail room b.room p;
+      }
 
-  pub looking_all : length items ≤ i → Looked g w to left queue out tail l q o t
-  looking_all h U D head u out-to work = subst (λ (x : List ℕ). Working g U w D l q o head t x) (drop_all i items h) (k.works U D head u out-to work)
+  pub looking_all : length items ≤ i → Looks a to b
+  looking_all h U D head u out-to work = subst (λ (x : List ℕ). Working a.graph.now U (number a.side) D b.left.now b.queue.now b.out.now head b.tail x) (drop_all i items h) (k.works U D head u out-to work)

@@ -8,7 +8,9 @@ use Rattle.endless.specs.Sets.{Set, In, Out, Each}
 use Rattle.endless.specs.Bits.{members, size}
 use Rattle.endless.specs.Pulling.{Passed, Moved}
 use Rattle.endless.specs.Flaws.{Step, Walk}
-use Rattle.endless.specs.Tracing.{Tracing, Remained, Joined, Visited, Searched, Traces}
+use Rattle.endless.specs.Tracing.{Tracing, Remained, Joined, Same, Visited, Went, Comes, Searching, Searched, Traces}
+use Rattle.endless.specs.Sides.{number}
+use Rattle.endless.specs.declared.search_back.SearchBack.{SearchBack}
 use Rattle.endless.proofs.Tests.{T_true}
 use Rattle.endless.proofs.Sets.{in_or_out}
 use Rattle.endless.proofs.Looking.{Lists, may_at}
@@ -19,8 +21,13 @@ pub walk_more : (g : Game) (X : Set) (w : ℕ) (plan : ℕ → ℕ) (k n m x : �
 walk_more g X w plan k n m x s i l (inl e) = let t = subst (λ (j : ℕ). Step g w plan n j) e s in (n ∷ [], last t.0 t.1, ((i, l), tt))
 walk_more g X w plan k n m x s i l (inr t) = (n ∷ t.1.0, then1 s.0 s.1 t.1.1, ((i, l), t.1.2))
 
--- one place is looked at: what moved
-pub visited_moves : (g : Game) (w : ℕ) (plan : ℕ → ℕ) (k from to tail : ℕ) (left queue left' queue' answer : List ℕ) (r : ℕ) → tail + size left ≤ length queue → Visited g w plan k from to tail left queue left' queue' r → Moved left queue answer tail left' queue' answer r
+-- one place is looked at
+abbrev Visits : Game → ℕ → (ℕ → ℕ) → ℕ → ℕ → ℕ → ℕ → List ℕ → List ℕ → List ℕ → List ℕ → ℕ → Type 0
+Visits g w plan k from to tail left queue left' queue' r =
+    ((r ≡ tail) × Remained g w plan k from to left queue left' queue') ⊎ ((r ≡ tail + 1) × Joined g w plan k from to tail left queue left' queue')
+
+-- what moved
+visited_moves : (g : Game) (w : ℕ) (plan : ℕ → ℕ) (k from to tail : ℕ) (left queue left' queue' answer : List ℕ) (r : ℕ) → tail + size left ≤ length queue → Visits g w plan k from to tail left queue left' queue' r → Moved left queue answer tail left' queue' answer r
 visited_moves g w plan k from to tail left queue left' queue' answer r space (inl t) =
     let s = t.1 in
     subst (λ (l : List ℕ). Moved left queue answer tail l queue' answer r) (sym s.left_is) (subst (λ (q : List ℕ). Moved left queue answer tail left q answer r) (sym s.queue_is) (subst (λ (j : ℕ). Moved left queue answer tail left queue answer j) (sym t.0) (moved_none left queue answer tail)))
@@ -106,7 +113,7 @@ module _ (g : Game) (w : ℕ) (plan : ℕ → ℕ) (k from to tail : ℕ) (left 
         go (inl e) = absurd (removed_out left from left' c.left_is (subst (λ (j : ℕ). In (members left') j) e y))
         go (inr d) = passed_by n d (waits n (removed_within left from left' c.left_is n y) l step)
 
-  pub tracing_step : (r : ℕ) → tail + size left ≤ length queue → Visited g w plan k from to tail left queue left' queue' r → Tracing g X w plan k x (members left') queue' head r × Awaits g w plan k to left' ns
+  tracing_step : (r : ℕ) → tail + size left ≤ length queue → Visits g w plan k from to tail left queue left' queue' r → Tracing g X w plan k x (members left') queue' head r × Awaits g w plan k to left' ns
   tracing_step r space (inl t) =
       let s = t.1 in (
         subst (λ (l : List ℕ). Tracing g X w plan k x (members l) queue' head r) (sym s.left_is) (subst (λ (q : List ℕ). Tracing g X w plan k x (members left) q head r) (sym s.queue_is) (subst (λ (j : ℕ). Tracing g X w plan k x (members left) queue head j) (sym t.0) so_far)),
@@ -117,21 +124,41 @@ module _ (g : Game) (w : ℕ) (plan : ℕ → ℕ) (k from to tail : ℕ) (left 
       let room : tail < length queue = omega (arith, c.left_is.shrinks (T_true _ c.was)) in
       (subst (λ (j : ℕ). Tracing g X w plan k x (members left') queue' head j) (sym t.0) (joined room c), joined_waits room c)
 
+-- ---- a search goes by the same claim throughout
+
+module _ (s t u : SearchBack) (same : Same s t) where
+  same_then : Same t u → Same s u
+  same_then then = record { claim = then.claim ∙ same.claim; heaviest = then.heaviest ∙ same.heaviest }
+
+  visits : (from to : ℕ) → Visited t from to u → Visits s.claim.graph.now (number s.claim.side) (goes s.claim.answer.now) s.heaviest from to t.tail t.left.now t.queue.now u.left.now u.queue.now u.tail
+  visits from to v = rw (← same.claim, ← same.heaviest) v
+
+  went_then : Went s t → Went t u → Went s u
+  went_then m n = moved_then s.left.now s.queue.now s.claim.answer.now s.tail t.left.now t.queue.now s.claim.answer.now t.tail u.left.now u.queue.now s.claim.answer.now u.tail m (rw (← same.claim) n)
+
+  searches : (to : ℕ) → Searched t to u → (X : Set) (x head : ℕ) → head ≤ t.tail → Comes s X to x → Searching s X x head t → Searching s X x head u × ((n : ℕ) → In (members u.left.now) n → weight s.claim.graph.now n ≤ s.heaviest → Step s.claim.graph.now (number s.claim.side) (goes s.claim.answer.now) n to → ⊥)
+  searches to z = rw (← same.claim, ← same.heaviest) z
+
 -- ---- the places that may move to one: i of them have been looked at
 
-pub record Visiting (g : Game) (w : ℕ) (answer : List ℕ) (k to : ℕ) (items left queue : List ℕ) (tail i : ℕ) (left' queue' : List ℕ) (tail' : ℕ) : Type 0 where
-  pub moved : Moved left queue answer tail left' queue' answer tail'
-  pub works : (X : Set) (x head : ℕ) → head ≤ tail → (to ≡ x) ⊎ (In X to × Walk g X w (goes answer) k to x) → Tracing g X w (goes answer) k x (members left) queue head tail → Tracing g X w (goes answer) k x (members left') queue' head tail' × Awaits g w (goes answer) k to left' (drop i items)
+pub record Visiting (s : SearchBack) (to : ℕ) (items : List ℕ) (i : ℕ) (t : SearchBack) : Type 0 where
+  pub same : Same s t
+  pub went : Went s t
+  pub works : (X : Set) (x head : ℕ) → head ≤ s.tail → Comes s X to x → Searching s X x head s → Searching s X x head t × Awaits s.claim.graph.now (number s.claim.side) (goes s.claim.answer.now) s.heaviest to t.left.now (drop i items)
 
-pub visiting_more : (g : Game) (w : ℕ) (answer : List ℕ) (k to : ℕ) (items left queue : List ℕ) (tail i : ℕ) (l q : List ℕ) (t : ℕ) (l' q' : List ℕ) (t' : ℕ) → Lists g to items → i < length items → t + size l ≤ length q →
-    Visiting g w answer k to items left queue tail i l q t → Visited g w (goes answer) k (get_or items i 0) to t l q l' q' t' → Visiting g w answer k to items left queue tail (i + 1) l' q' t'
-visiting_more g w answer k to items left queue tail i l q t l' q' t' lists h space so_far p = record {
-  moved = moved_then left queue answer tail l q answer t l' q' answer t' so_far.moved (visited_moves g w (goes answer) k (get_or items i 0) to t l q l' q' answer t' space p);
-  works = λ X x head o c work.
-      let here = so_far.works X x head o c work in
-      tracing_step g w (goes answer) k (get_or items i 0) to t l q l' q' X x head (may_at g to items lists i h) (omega (arith, so_far.moved.grows)) c here.0 (drop (i + 1) items)
-      (λ n y b s. subst (λ (z : List ℕ). Among n z) (drop_more items i 0 h) (here.1 n y b s)) t' space p;
-}
+pub visiting_more : {s t u : SearchBack} {to : ℕ} {items : List ℕ} {i : ℕ} → Lists s.claim.graph.now to items → i < length items → Visiting s to items i t → Same t u → Visited t (get_or items i 0) to u → Visiting s to items (i + 1) u
+visiting_more {s} {t} {u} {to} {items} {i} lists h so_far same visited =
+    let v = visits s t u so_far.same (get_or items i 0) to visited in
+    let c = s.claim in
+    record {
+      same = same_then s t u so_far.same same;
+      went = moved_then s.left.now s.queue.now c.answer.now s.tail t.left.now t.queue.now c.answer.now t.tail u.left.now u.queue.now c.answer.now u.tail so_far.went
+          (visited_moves c.graph.now (number c.side) (goes c.answer.now) s.heaviest (get_or items i 0) to t.tail t.left.now t.queue.now u.left.now u.queue.now c.answer.now u.tail t.room v);
+      works = λ X x head o comes work.
+          let here = so_far.works X x head o comes work in
+          tracing_step c.graph.now (number c.side) (goes c.answer.now) s.heaviest (get_or items i 0) to t.tail t.left.now t.queue.now u.left.now u.queue.now X x head (may_at c.graph.now to items lists i h) (omega (arith, so_far.went.grows)) comes here.0 (drop (i + 1) items)
+          (λ n y b z. subst (λ (l : List ℕ). Among n l) (drop_more items i 0 h) (here.1 n y b z)) u.tail t.room v;
+    }
 
 none_among : (n : ℕ) (ns : List ℕ) → ns ≡ [] → Among n ns → ⊥
 none_among n ns e a = go (subst (λ (l : List ℕ). Among n l) e a)
@@ -139,26 +166,27 @@ none_among n ns e a = go (subst (λ (l : List ℕ). Among n l) e a)
     go : Among n [] → ⊥
     go b = elim b [ ]
 
-pub visiting_all : (g : Game) (w : ℕ) (answer : List ℕ) (k to : ℕ) (items left queue : List ℕ) (tail i : ℕ) (l q : List ℕ) (t : ℕ) → length items ≤ i → Visiting g w answer k to items left queue tail i l q t → Searched g w (goes answer) k to left queue tail l q t
-visiting_all g w answer k to items left queue tail i l q t h so_far X x head o c work =
+pub visiting_all : {s t : SearchBack} {to : ℕ} {items : List ℕ} {i : ℕ} → length items ≤ i → Visiting s to items i t → Searched s to t
+visiting_all {s} {t} {to} {items} {i} h so_far X x head o c work =
     let r = so_far.works X x head o c work in
-    (r.0, λ n y b s. none_among n (drop i items) (drop_all i items h) (r.1 n y b s))
+    (r.0, λ n y b z. none_among n (drop i items) (drop_all i items h) (r.1 n y b z))
 
 -- ---- the queue
 
-pub record Queued (g : Game) (w : ℕ) (answer : List ℕ) (k : ℕ) (left queue : List ℕ) (head : ℕ) (left' queue' : List ℕ) (tail : ℕ) : Type 0 where
-  pub order : head ≤ tail
-  pub moved : Moved left queue answer 1 left' queue' answer tail
-  pub works : Tracing g (members left) w (goes answer) k (get_or queue 0 0) (members left') queue' head tail
+pub record Queued (s : SearchBack) (head : ℕ) (t : SearchBack) : Type 0 where
+  pub order : head ≤ t.tail
+  pub same : Same s t
+  pub went : Went s t
+  pub works : Searching s (members s.left.now) (get_or s.queue.now 0 0) head t
 
-pub queued_more : {g : Game} {w : ℕ} {answer : List ℕ} {k : ℕ} {left queue : List ℕ} {head : ℕ} {l q : List ℕ} {t : ℕ} {l' q' : List ℕ} {t' : ℕ} (next : ℕ) → head < t → next ≡ head + 1 → Queued g w answer k left queue head l q t → Moved l q answer t l' q' answer t' →
-    Searched g w (goes answer) k (get_or q head 0) l q t l' q' t' → Queued g w answer k left queue next l' q' t'
-queued_more {g} {w} {answer} {k} {left} {queue} {head} {l} {q} {t} {l'} {q'} {t'} next h is so_far m search = record {
-  order = omega (arith, m.grows);
-  moved = moved_then left queue answer 1 l q answer t l' q' answer t' so_far.moved m;
+pub queued_more : {s t u : SearchBack} {head : ℕ} → head < t.tail → Queued s head t → Same t u → Went t u → Searched t (get_or t.queue.now head 0) u → Queued s (head + 1) u
+queued_more {s} {t} {u} {head} h so_far same went searched = record {
+  order = omega (arith, went.grows);
+  same = same_then s t u so_far.same same;
+  went = went_then s t u so_far.same so_far.went went;
   works =
       let work = so_far.works in
-      let r = search (members left) (get_or queue 0 0) head (omega arith) (work.queued head h) work in
+      let r = searches s t u so_far.same (get_or t.queue.now head 0) searched (members s.left.now) (get_or s.queue.now 0 0) head (omega arith) (work.queued head h) work in
       let z = r.0 in
       record {
         within = z.within;
@@ -167,17 +195,17 @@ queued_more {g} {w} {answer} {k} {left} {queue} {head} {l} {q} {t} {l'} {q'} {t'
         queued = z.queued;
         walks = z.walks;
         listed = z.listed;
-        looked = λ n j y b p s. looked z r.1 n j y b p s (cases_lt p.0 head);
+        looked = λ n j y b p step. looked z r.1 n j y b p step (cases_lt p.0 head);
       };
 }
   where
-    looked : Tracing g (members left) w (goes answer) k (get_or queue 0 0) (members l') q' head t' → ((n : ℕ) → In (members l') n → weight g n ≤ k → Step g w (goes answer) n (get_or q head 0) → ⊥) →
-        (n j : ℕ) → In (members l') n → weight g n ≤ k → (p : Passed q' next j) → Step g w (goes answer) n j → (p.0 < head) ⊎ (head ≤ p.0) → ⊥
-    looked z none n j y b p s (inl c) = z.looked n j y b (p.0, c, p.2) s
-    looked z none n j y b p s (inr c) =
+    looked : Searching s (members s.left.now) (get_or s.queue.now 0 0) head u → ((n : ℕ) → In (members u.left.now) n → weight s.claim.graph.now n ≤ s.heaviest → Step s.claim.graph.now (number s.claim.side) (goes s.claim.answer.now) n (get_or t.queue.now head 0) → ⊥) →
+        (n j : ℕ) → In (members u.left.now) n → weight s.claim.graph.now n ≤ s.heaviest → (p : Passed u.queue.now (head + 1) j) → Step s.claim.graph.now (number s.claim.side) (goes s.claim.answer.now) n j → (p.0 < head) ⊎ (head ≤ p.0) → ⊥
+    looked z none n j y b p step (inl c) = z.looked n j y b (p.0, c, p.2) step
+    looked z none n j y b p step (inr c) =
         let e : p.0 ≡ head = omega (arith, p.1) in
-        let same : get_or q head 0 ≡ j = sym (m.front head h) ∙ sym (ap (λ (i : ℕ). get_or q' i 0) e) ∙ p.2 in
-        none n y b (subst (λ (i : ℕ). Step g w (goes answer) n i) (sym same) s)
+        let same : get_or t.queue.now head 0 ≡ j = sym (went.front head h) ∙ sym (ap (λ (i : ℕ). get_or u.queue.now i 0) e) ∙ p.2 in
+        none n y b (subst (λ (i : ℕ). Step s.claim.graph.now (number s.claim.side) (goes s.claim.answer.now) n i) (sym same) step)
 
 -- in the end
 module _ {g : Game} {X : Set} {w : ℕ} {plan : ℕ → ℕ} {k x : ℕ} {L : Set} {queue : List ℕ} {head tail : ℕ} (end : tail ≤ head) (work : Tracing g X w plan k x L queue head tail) where

@@ -1,12 +1,14 @@
 -- What it is to be an answer, and what `check` promises.
-use Rattle.std.specs.Prelude.{◌≡◌, ℕ, ◌+◌, ◌*◌, ◌<◌, ◌≤◌, ◌↔◌, List, length, nat_lt, Ok, Err, Result}
+use Rattle.std.specs.Prelude.{◌≡◌, ℕ, ◌+◌, ◌*◌, ◌<◌, ◌≤◌, ◌↔◌, List, length, nat_lt, Ok, Err, MatchResult, Result}
 use Rattle.endless.specs.Games.{Game, Reads}
 use Rattle.endless.specs.Says.{WinsFrom, side, goes}
 use Rattle.endless.specs.Sets.{whole, having}
+use Rattle.endless.specs.Subgames.{Holds}
 use Rattle.endless.specs.Sides.{number}
 use Rattle.endless.specs.Bits.{members, size}
 use Rattle.endless.specs.Layout.{width}
 use Rattle.endless.specs.Flaws.{FlawIs}
+use Rattle.endless.specs.declared.side.Side.{Side}
 use Rattle.endless.specs.declared.verdict.Reason.{Reason}
 use Rattle.endless.specs.declared.verdict.Reason.TheVariants.{Short, NoSide, Plan}
 use Rattle.endless.specs.declared.refusal.Refusal.TheVariants.{Few, NoGame, NoPlace, OutFull}
@@ -25,6 +27,10 @@ abbrev pub ReasonIs : Game → List ℕ → Reason → Type 0
 ReasonIs g o Short = length o < 2 * length g
 ReasonIs g o (NoSide n) = (n.0 < length g) × (2 ≤ side o n.0)
 ReasonIs g o (Plan w f) = FlawIs g (whole g) (having (whole g) (side o) (number w)) (number w) (goes o) f
+
+-- a side's plan wins from the places given to it, or why not
+abbrev pub SideChecked : Game → List ℕ → Side → Result (Unit {0}) Reason → Type 0
+SideChecked g o w r = MatchResult r (λ _. Holds g (whole g) (having (whole g) (side o) (number w)) (number w) (goes o)) (λ reason. ReasonIs g o reason)
 
 -- `check`: what each answer says
 abbrev pub CheckedSays : List ℕ → List ℕ → Result (Unit {0}) Rejection → Type 0

@@ -8,7 +8,7 @@ use crate::side::Side;
 pub struct PlaceId(pub u32);
 
 /// The side that wins a place.
-#[derive(Clone, Copy)]
+#[derive(Clone, Copy, PartialEq, Eq)]
 pub struct Winner(pub Side);
 
 /// Who wins `place` by this answer: `None` where the answer gives it to

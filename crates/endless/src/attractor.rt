@@ -47,63 +47,83 @@ fn escapes_from(graph: &Graph, place: u32, left: &[u32], escapes: &mut [u32]) ->
     }
 }
 
-/// Looks at `from`, which may move to `to`, of which `side` can bring about
-/// the targets: a place of that side is taken with this move, one of the
-/// other's where no move of it leads into what is left. The number of places
-/// in the queue then.
-fn pull(
-    graph: &Graph,
+/// An attractor that is being made: what is left of a subgame, the answer so
+/// far, and the places that are attracted, in the order in which they were.
+#[derive(Drop)]
+struct Attraction<'g, 'r> {
+    graph: &'g Graph<'g>,
     side: Side,
-    from: u32,
-    to: u32,
-    left: &mut [u32],
-    out: &mut [u32],
-    queue: &mut [u32],
-    escapes: &mut [u32],
+    left: &'r mut [u32],
+    out: &'r mut [u32],
+    queue: &'r mut [u32],
+    /// For each place the move by which it was last found to escape.
+    escapes: &'r mut [u32],
     tail: usize,
-) -> usize
-    requires from { from < length graph.now }
-    requires sized { Sized graph.now left.old out.old escapes.old }
-    requires room { tail + size left.old ≤ length queue.old }
-    ensures { Pulled graph.now (number side) from to tail left.old queue.old out.old left.new queue.new out.new result }
-{
-    if !bits::has(left, from) {
-        return tail;
-    }
-    if !graph.is_own(side, from) {
-        if escapes_from(graph, from, left, escapes) {
-            return tail;
-        }
-    }
-    bits::remove(left, from);
-    out[2 * from as usize] = side.to_word();
-    out[2 * from as usize + 1] = to;
-    queue[tail] = from;
-    tail + 1
+    ghost sized: { Sized graph.now left.now out.now escapes.now },
+    ghost room: { tail + size left.now ≤ length queue.now },
 }
 
-/// Looks at all places that may move to `to`.
-fn pull_all(
-    graph: &Graph,
-    side: Side,
-    to: u32,
-    left: &mut [u32],
-    out: &mut [u32],
-    queue: &mut [u32],
-    escapes: &mut [u32],
-    filled: usize,
-) -> usize
-    requires to { to < length graph.now }
-    requires sized { Sized graph.now left.old out.old escapes.old }
-    requires room { filled + size left.old ≤ length queue.old }
-    ensures moved { Moved left.old queue.old out.old filled left.new queue.new out.new result }
-    ensures looked { Looked graph.now (number side) to left.old queue.old out.old filled left.new queue.new out.new result }
-{
-    let mut tail = filled;
-    for from in graph.preds(to) {
-        tail = pull(graph, side, *from, to, left, out, queue, escapes, tail);
+impl Attraction<'_, '_> {
+    ghost use Rattle.endless.specs.Attraction.{Same, Pulls, Moves, Looks, Brings};
+
+    /// Looks at `from`, which may move to `to`, of which the side can bring about
+    /// the targets: a place of that side is taken with this move, one of the
+    /// other's where no move of it leads into what is left.
+    fn pull(&mut self, from: u32, to: u32)
+        requires from { from < length self.old.graph.now }
+        ensures same { Same self.old self.new }
+        ensures pulls { Pulls self.old from to self.new }
+    {
+        let left = &mut *self.left;
+        if !bits::has(left, from) {
+            return;
+        }
+        if !self.graph.is_own(self.side, from) {
+            let escapes = &mut *self.escapes;
+            if escapes_from(self.graph, from, left, escapes) {
+                return;
+            }
+        }
+        bits::remove(left, from);
+        self.out[2 * from as usize] = self.side.to_word();
+        self.out[2 * from as usize + 1] = to;
+        self.queue[self.tail] = from;
+        self.tail += 1;
     }
-    tail
+
+    /// Looks at all places that may move to `to`.
+    fn pull_all(&mut self, to: u32)
+        requires to { to < length self.old.graph.now }
+        ensures same { Same self.old self.new }
+        ensures moves { Moves self.old self.new }
+        ensures looks { Looks self.old to self.new }
+    {
+        for from in self.graph.preds(to) {
+            self.pull(*from, to);
+        }
+    }
+
+    /// Goes through the queue, up to its end or to where nothing is left: then
+    /// `all` places stand in it.
+    fn attract(&mut self, all: usize)
+        requires inside { (n : ℕ) → In (members self.old.left.now) n → n < length self.old.graph.now }
+        requires targets { (j : ℕ) → j < self.old.tail → slice_index self.old.queue.now j < length self.old.graph.now }
+        requires counted { all ≡ self.old.tail + size self.old.left.now }
+        ensures same { Same self.old self.new }
+        ensures moves { Moves self.old self.new }
+        ensures brings { Brings self.old self.new }
+    {
+        let mut head = 0;
+        // The queue grows on the way, so that no iterator can borrow it.
+        'queue: while head < self.tail {
+            let to = self.queue[head];
+            head += 1;
+            self.pull_all(to);
+            if self.tail == all {
+                break 'queue;
+            }
+        }
+    }
 }
 
 /// Takes from what is left of a subgame all places from which `side` can
@@ -129,18 +149,17 @@ pub fn attract_counted(
     ensures moved { Moved left.old queue.old out.old targets left.new queue.new out.new result }
     ensures attracts { (U D : Set) → Subgame graph.now U → Starts U D left.old queue.old targets → Attracts graph.now U (number side) D left.new queue.new out.new result }
 {
-    let mut head = 0;
-    let mut tail = targets;
-    // The queue grows on the way, so that no iterator can borrow it.
-    'queue: while head < tail {
-        let to = queue[head];
-        head += 1;
-        tail = pull_all(graph, side, to, left, out, queue, escapes, tail);
-        if tail == all {
-            break 'queue;
-        }
-    }
-    tail
+    let mut attraction = Attraction {
+        graph,
+        side,
+        left,
+        out,
+        queue,
+        escapes,
+        tail: targets,
+    };
+    attraction.attract(all);
+    attraction.tail
 }
 
 /// Does what `attract_counted` does, and counts what is left first.

@@ -3,6 +3,7 @@
 //!
 //! Nothing is proved of what is found. It is looked at before it is believed,
 //! or serves where any choice is safe.
+ghost use Rattle.std.specs.Prelude.{◌≡◌};
 
 /// What a walk goes through, and what becomes of the components that it finds.
 pub(crate) trait View {
@@ -49,7 +50,7 @@ pub(crate) struct Walk<'a> {
     /// places that were left behind and have no component yet.
     queue: &'a mut [u32],
     path: usize,
-    open: usize,
+    behind: usize,
     number: u32,
     components: u32,
     /// How many places the greatest component has.
@@ -69,7 +70,7 @@ impl<'a> Walk<'a> {
             cursors,
             queue,
             path: 0,
-            open: 0,
+            behind: 0,
             number: 1,
             components: 0,
             greatest: 0,
@@ -88,6 +89,8 @@ impl<'a> Walk<'a> {
             return;
         }
         self.enter(place);
+        // Nothing is proved of the walk, so a bound that is never reached stands for
+        // a measure.
         for _ in 0..u64::MAX {
             if self.path == 0 {
                 return;
@@ -154,35 +157,37 @@ impl<'a> Walk<'a> {
     fn leave<V: View>(&mut self, view: &mut V, place: u32, number: u32) {
         self.path = self.path.saturating_sub(1);
         if number % 2 == 0 {
-            self.open = self.open.saturating_add(1);
-            let at = self.queue.len().saturating_sub(self.open);
+            self.behind = self.behind.saturating_add(1);
+            let at = self.queue.len().saturating_sub(self.behind);
             write(self.queue, at, place);
             return;
         }
         self.components = self.components.saturating_add(1);
-        let open = self.open;
+        let behind = self.behind;
         self.close(view, number);
         self.put(view, place);
-        let size = open.saturating_sub(self.open).saturating_add(1);
+        let size = behind.saturating_sub(self.behind).saturating_add(1);
         self.greatest = self.greatest.max(size);
     }
 
     /// The places that were left behind since `number` belong to the component
     /// that is being closed.
     fn close<V: View>(&mut self, view: &mut V, number: u32) {
-        for _ in 0..self.queue.len() {
-            let at = self.queue.len().saturating_sub(self.open);
+        while self.behind > 0 {
+            let at = self.queue.len().saturating_sub(self.behind);
             let place = word(self.queue, at);
-            if self.open == 0 || word(self.numbers, place as usize) / 2 < number / 2 {
+            if word(self.numbers, place as usize) / 2 < number / 2 {
                 return;
             }
-            self.open = self.open.saturating_sub(1);
+            self.behind -= 1;
             self.put(view, place);
         }
     }
 
     /// This place belongs to the component that is being closed.
-    fn put<V: View>(&mut self, view: &mut V, place: u32) {
+    fn put<V: View>(&mut self, view: &mut V, place: u32)
+        ensures { self.new.behind ≡ self.old.behind }
+    {
         write(self.numbers, place as usize, DONE);
         view.put(place, self.components);
     }

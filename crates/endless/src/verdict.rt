@@ -2,17 +2,18 @@
 //! how it was found.
 ghost use Rattle.std.specs.Prelude.{◌≡◌, ℕ, ◌+◌, ◌*◌, ◌<◌, ◌≤◌, ◌↔◌, length, MatchOption, MatchResult, slice_index};
 ghost use Rattle.endless.specs.Games.{Game, Reads};
-ghost use Rattle.endless.specs.Says.{side, goes};
-ghost use Rattle.endless.specs.Sets.{In, whole, having};
-ghost use Rattle.endless.specs.Subgames.{Holds, Solves};
+ghost use Rattle.endless.specs.Says.{side as says, goes};
+ghost use Rattle.endless.specs.Sets.{In, whole};
+ghost use Rattle.endless.specs.Subgames.{Solves};
 ghost use Rattle.endless.specs.Sides.{number};
 ghost use Rattle.endless.specs.Bits.{members};
-ghost use Rattle.endless.specs.Checked.{Tabled, ReasonIs, CheckedPost};
+ghost use Rattle.endless.specs.Checked.{Tabled, ReasonIs, SideChecked, CheckedPost};
 ghost use Rattle.endless.specs.declared.verdict.Reason.TheVariants as reasons;
 ghost use Rattle.endless.specs.declared.verdict.Rejection.TheVariants.{Refused, Wrong};
 
-use crate::answer::PlaceId;
+use crate::answer::{PlaceId, Winner, won_by};
 use crate::claim::Claim;
+use crate::examination::Examination;
 use crate::flaw::Flaw;
 use crate::graph::Graph;
 use crate::layout::{Layout, Short};
@@ -79,59 +80,75 @@ pub fn check(words: &[u32], answer: &[u32], work: &mut [u32]) -> Result<(), Reje
 
 /// The first place that the answer gives to neither side.
 fn first_sideless(answer: &[u32], places: u32) -> Option<u32>
-    requires { 2 * places ≤ length answer.now }
-    ensures { MatchOption result ((n : ℕ) → n < places → slice_index answer.now (2 * n) < 2) (λ n. (n < places) × (2 ≤ slice_index answer.now (2 * n))) }
+    ensures { MatchOption result ((n : ℕ) → n < places → says answer.now n < 2) (λ n. (n < places) × (2 ≤ says answer.now n)) }
 {
-    (0..places).find(|place| answer[2 * *place as usize] >= 2)
+    (0..places).find(|place| won_by(answer, PlaceId(*place)).is_none())
 }
 
 /// Makes the set the places that the answer gives to `side`.
 fn gather_given(answer: &[u32], side: Side, places: u32, set: &mut [u32])
-    requires answers { 2 * places ≤ length answer.now }
-    requires room { places ≤ 32 * length set.old }
-    ensures { (j : ℕ) → (In (members set.new) j ↔ ((j < places) × (slice_index answer.now (2 * j) ≡ number side))) }
+    requires { places ≤ 32 * length set.old }
+    ensures { (j : ℕ) → (In (members set.new) j ↔ ((j < places) × (says answer.now j ≡ number side))) }
 {
     bits::fill(set, 0);
     for place in 0..places {
-        if answer[2 * place as usize] == side.to_word() {
+        if won_by(answer, PlaceId(place)) == Some(Winner(side)) {
             bits::insert(set, place);
         }
     }
 }
 
-/// Whether the plan of `winner` wins from the places given to it, or why not.
-fn check_side<'a>(
-    graph: &'a Graph<'a>,
-    winner: Side,
+/// An answer that is checked: the graph, the set of all its places, and what is
+/// lent for that, two sets, a queue and ranks, and more for what proposes the
+/// ranks.
+#[derive(Drop)]
+struct Checking<'a> {
+    graph: Graph<'a>,
     answer: &'a [u32],
-    all: &[u32],
+    all: &'a [u32],
     set: &'a mut [u32],
-    left: &mut [u32],
-    queue: &mut [u32],
-    ranks: &mut [u32],
-    lent: &mut [u32],
-) -> Result<(), Reason>
-    requires answers { 2 * length graph.now ≤ length answer.now }
-    requires tabled { Tabled graph.now all.now set.old left.old queue.old ranks.old }
-    ensures { MatchResult result (λ _. Holds graph.now (whole graph.now) (having (whole graph.now) (side answer.now) (number winner)) (number winner) (goes answer.now)) (λ reason. ReasonIs graph.now answer.now reason) }
-{
-    gather_given(answer, winner, graph.len(), set);
-    let claim = Claim {
-        graph,
-        side: winner,
-        answer,
-        set,
-    };
-    match claim.find_flaw(all, left, queue, ranks, lent) {
-        Ok(()) => Ok(()),
-        Err(flaw) => Err(Reason::Plan { side: winner, flaw }),
+    left: &'a mut [u32],
+    queue: &'a mut [u32],
+    ranks: &'a mut [u32],
+    lent: &'a mut [u32],
+    ghost answers: { 2 * length graph ≤ length answer.now },
+    ghost tabled: { Tabled graph all.now set.now left.now queue.now ranks.now },
+}
+
+impl Checking<'_> {
+    /// Whether the plan of `winner` wins from the places given to it, or why not.
+    fn check_side(&mut self, winner: Side) -> Result<(), Reason>
+        ensures graph { self.new.graph ≡ self.old.graph }
+        ensures answer { self.new.answer.now ≡ self.old.answer.now }
+        ensures checked { SideChecked self.old.graph self.old.answer.now winner result }
+    {
+        let graph = &self.graph;
+        let set = &mut *self.set;
+        gather_given(self.answer, winner, graph.len(), set);
+        let claim = Claim {
+            graph,
+            side: winner,
+            answer: self.answer,
+            set,
+        };
+        let mut examination = Examination {
+            claim,
+            left: self.left,
+            queue: self.queue,
+            ranks: self.ranks,
+            lent: self.lent,
+        };
+        match examination.find_flaw(self.all) {
+            Ok(()) => Ok(()),
+            Err(flaw) => Err(Reason::Plan { side: winner, flaw }),
+        }
     }
 }
 
 /// Whether an answer with two words for each place is one, or why not.
-fn check_game<'a>(words: &'a [u32], answer: &[u32], work: &'a mut [u32]) -> Result<(), Reason>
+fn check_game<'a>(words: &'a [u32], answer: &'a [u32], work: &'a mut [u32]) -> Result<(), Reason>
     requires { (g : Game) × Reads words.now g × (2 * length g ≤ length answer.now) × (65536 + 4 * length words.now ≤ length work.old) }
-    ensures { (g : Game) → Reads words.now g → MatchResult result (λ _. Solves g (whole g) (side answer.now) (goes answer.now)) (λ reason. ReasonIs g answer.now reason) }
+    ensures { (g : Game) → Reads words.now g → MatchResult result (λ _. Solves g (whole g) (says answer.now) (goes answer.now)) (λ reason. ReasonIs g answer.now reason) }
 {
     if let Some(place) = first_sideless(answer, words[0]) {
         return Err(Reason::NoSide(PlaceId(place)));
@@ -143,30 +160,19 @@ fn check_game<'a>(words: &'a [u32], answer: &[u32], work: &'a mut [u32]) -> Resu
         rest,
         ..
     } = layout::lay_out(words, work);
-    let ranks = escapes;
     let (set, rest) = rest.split_at_mut(all.len());
     let (left, rest) = rest.split_at_mut(all.len());
     let (queue, lent) = rest.split_at_mut(words[0] as usize + 1);
-    check_side(
-        &graph,
-        Side::Even,
+    let mut checking = Checking {
+        graph,
         answer,
         all,
         set,
         left,
         queue,
-        ranks,
+        ranks: escapes,
         lent,
-    )?;
-    check_side(
-        &graph,
-        Side::Odd,
-        answer,
-        all,
-        set,
-        left,
-        queue,
-        ranks,
-        lent,
-    )
+    };
+    checking.check_side(Side::Even)?;
+    checking.check_side(Side::Odd)
 }

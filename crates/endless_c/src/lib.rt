@@ -47,6 +47,7 @@ pub extern "C" fn endless_solve(words: &[u32], out: &mut [u32], work: &mut [u32]
 pub extern "C" fn endless_attract_to(
     words: &[u32],
     target: u32,
+    // C hands any number, so this is no `Side` yet.
     side: u32,
     out: &mut [u32],
     work: &mut [u32],
