@@ -1,6 +1,6 @@
 -- The recursion over weights: from what its steps do to what they mean, and the room for the level below.
 use Rattle.std.proofs.Common.{◌≡◌, ℕ, ◌+◌, ◌-◌, ◌*◌, ◌%◌, ◌<◌, ◌≤◌, true, eqb, ◌⊎◌, List, length, sym, refl, ap, ◌∙◌, subst, inl, inr, mul-le-mul_right, add-mul, arith}
-use Rattle.std.proofs.lemmas.Bool.{cases_eq, both_ways, lt-ltb, eq-eqb}
+use Rattle.std.proofs.lemmas.Bool.{both_ways, lt-ltb, eq-eqb}
 use Rattle.endless.specs.Games.{Game, weight, May}
 use Rattle.endless.specs.Says.{side, goes}
 use Rattle.endless.specs.Sets.{Set, In, Out, Within, minus, having}
@@ -174,11 +174,3 @@ room_set {g = g} {bound = bound} {own = own} r some =
     let mine = true_T _ t.1 in
     let fall = levels_fall g t.0 (weight g t.0) bound (r.subgame.places t.0 mine) refl (r.light t.0 mine) in
     omega (arith, mul-le-mul_right (length own) fall, add-mul (levels g (weight g t.0)) 1 (length own), r.sets)
-
--- how many places a part has
-pub part_counted : {n many r k : ℕ} → (n ≡ 0 → many ≡ k) × (0 < n → n ≡ k) → (n ≡ 0 → r ≡ many) × (0 < n → r ≡ n) → r ≡ k
-part_counted {n} {many} {r} {k} t u = go (cases_eq n 0)
-  where
-    go : (n ≡ 0) ⊎ (n ≡ 0 → ⊥) → r ≡ k
-    go (inl e) = u.0 e ∙ t.0 e
-    go (inr d) = let some : 0 < n = omega arith in u.1 some ∙ t.1 some

@@ -9,14 +9,19 @@ use Rattle.endless.specs.Bits.{members, size, Removed}
 use Rattle.endless.specs.Pulling.{Passed, Unchanged, Starts}
 use Rattle.endless.specs.Levels.{HeaviestIn, HeaviestOf, GatheredIn, Stays, Taken, TakenIf}
 use Rattle.endless.specs.Parts.{Told, PickedIf}
-use Rattle.endless.proofs.Tests.{T_true}
+use Rattle.endless.proofs.Tests.{T_true, true_T}
+use Rattle.endless.proofs.SetLaws.{size_some}
 use Rattle.endless.proofs.Sets.{having_in, having_within, having_is}
 use Rattle.endless.proofs.Gathering.{given_same, given_length, given_side, given_stays}
 use Rattle.endless.proofs.Working.{unchanged_goes, same_side, removed_out, removed_within, removed_which}
 
 -- what stands in a told list is in the part
 pub told_in : (list : List ℕ) (R : Set) → Told list R → (j : ℕ) → j < length list → In R (get_or list j 0)
-told_in list R told j h = (told (omega arith) (get_or list j 0)).1 (j, h, refl)
+told_in list R told j h = (told (get_or list j 0)).1 (j, h, refl)
+
+-- the list of a part with places is not empty
+pub told_some : (list part : List ℕ) → Told list (members part) → 0 < size part → 0 < length list
+told_some list part told h = let t = size_some part h in omega (arith, ((told t.0).0 (true_T _ t.1)).1)
 
 -- ---- the heaviest weight
 
@@ -43,9 +48,9 @@ weighed_all {g} {list} {i} {h} end k some = go k.some_place
     go (inl t) = absurd (omega (arith, t.1))
     go (inr t) = record { most = λ j l. k.most j (omega arith); some_place = (t.0, omega (arith, t.1), t.2) }
 
-pub heaviest_told : (g : Game) (list : List ℕ) (R : Set) (h : ℕ) → 0 < length list → Told list R → HeaviestOf g list h → HeaviestIn g R h
-heaviest_told g list R h some told k = record {
-  most = λ n x. let t = (told some n).0 x in subst (λ (j : ℕ). weight g j ≤ h) t.2 (k.most t.0 t.1);
+pub heaviest_told : (g : Game) (list : List ℕ) (R : Set) (h : ℕ) → Told list R → HeaviestOf g list h → HeaviestIn g R h
+heaviest_told g list R h told k = record {
+  most = λ n x. let t = (told n).0 x in subst (λ (j : ℕ). weight g j ≤ h) t.2 (k.most t.0 t.1);
   some_place = let t = k.some_place in (get_or list t.0 0, told_in list R told t.0 t.1, t.2);
 }
 
@@ -140,8 +145,8 @@ module _ {f : ℕ → ℕ} {k : ℕ} {own list : List ℕ} {i : ℕ} {left queue
   picking_more {left'} {queue'} {r} room (inr t) = rw t.0 (picking_take (omega (arith, so_far.counts, t.3.shrinks (T_true _ t.1))) t.1 t.2 left' queue' t.3 t.4)
 
   -- after the last place of a list that tells a part
-  pub picking_all : (R : Set) → i ≡ length list → 0 < length list → Within R (members own) → Told list R → Starts (members own) (having R f k) left queue count
-  picking_all R end some inside told = record {
+  pub picking_all : (R : Set) → i ≡ length list → Within R (members own) → Told list R → Starts (members own) (having R f k) left queue count
+  picking_all R end inside told = record {
     rest = so_far.rest;
     inside = λ n x. inside n (having_within R f k n x);
     apart = apart;
@@ -152,13 +157,13 @@ module _ {f : ℕ → ℕ} {k : ℕ} {own list : List ℕ} {i : ℕ} {left queue
     where
       apart : (n : ℕ) → In (having R f k) n → Out (members left) n
       apart n x =
-          let t = (told some n).0 (having_within R f k n x) in
+          let t = (told n).0 (having_within R f k n x) in
           subst (λ (m : ℕ). Out (members left) m) t.2 (so_far.apart t.0 (omega (arith, t.1)) (ap f t.2 ∙ having_is R f k n x))
 
       covers : (n : ℕ) → In (members own) n → Out (members left) n → In (having R f k) n
       covers n x o =
           let t = so_far.covers n x o in
-          having_in R f k n ((told some n).1 (t.0.0, omega (arith, t.0.1), t.0.2)) t.1
+          having_in R f k n ((told n).1 (t.0.0, omega (arith, t.0.1), t.0.2)) t.1
 
 -- ---- those of a weight, which are given to a side with a move that stays
 
@@ -209,15 +214,15 @@ module _ {g : Game} {w h : ℕ} {own part out list : List ℕ} {i : ℕ} {left q
       })
   taking_more space room (inr t) = rw t.0 (taking_take room t.1 t.3 (picking_more so_far.picks space (inr (refl, t.1, t.2, t.3.left_is, t.3.queue_is))))
 
-  pub taking_all : i ≡ length list → 0 < length list → Told list (members part) → GatheredIn g (members part) (members own) w h left queue out' count
-  taking_all end some told = record {
+  pub taking_all : i ≡ length list → Told list (members part) → GatheredIn g (members part) (members own) w h left queue out' count
+  taking_all end told = record {
     starts = starts;
     labelled = λ n y. so_far.labelled n (having_within (members part) (weight g) h n y) (starts.apart n y);
     stays = λ n y. so_far.stays n (having_within (members part) (weight g) h n y) (starts.apart n y);
   }
     where
       starts : Starts (members part) (having (members part) (weight g) h) left queue count
-      starts = picking_all so_far.picks (members part) end some (λ n x. x) told
+      starts = picking_all so_far.picks (members part) end (λ n x. x) told
 
 -- ---- the same targets, told otherwise
 pub starts_as : (U D E : Set) (l q : List ℕ) (k : ℕ) → Within D E → Within E D → Starts U D l q k → Starts U E l q k

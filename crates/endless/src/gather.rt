@@ -1,5 +1,6 @@
 //! Places of a set, gathered into the queue: the heaviest, and those that a side has won.
-ghost use Rattle.std.specs.Prelude.{◌≡◌, ℕ, ◌+◌, ◌*◌, ◌^◌, ◌<◌, ◌≤◌, length, ◌==◌, slice_index};
+ghost use Rattle.std.specs.Prelude.{◌≡◌, ℕ, ◌+◌, ◌*◌, ◌^◌, ◌<◌, ◌≤◌, length, option_copied, ◌==◌, slice_index};
+ghost use Rattle.std.specs.Option.{ForSome};
 ghost use Rattle.endless.specs.Says.{side};
 ghost use Rattle.endless.specs.Sets.{Set, In, Out, Within, having};
 ghost use Rattle.endless.specs.Sides.{number};
@@ -123,16 +124,15 @@ fn heaviest_of(graph: &Graph, list: &[u32]) -> u32
 
 /// The heaviest weight of a part, told by a list of its places, if there is
 /// one.
-pub(crate) fn heaviest_in(graph: &Graph, list: &[u32], part: &[u32]) -> u32
+pub(crate) fn heaviest_in(graph: &Graph, list: Option<&[u32]>, part: &[u32]) -> u32
     requires inside { (n : ℕ) → In (members part.now) n → n < length graph.now }
-    requires told { Told list.now (members part.now) }
+    requires told { ForSome list (λ list. Told list.now (members part.now)) }
     requires small { 32 * length part.now < 2 ^ 32 }
     ensures { 0 < size part.now → HeaviestIn graph.now (members part.now) result }
 {
-    if list.len() == 0 {
-        heaviest(graph, part)
-    } else {
-        heaviest_of(graph, list)
+    match list {
+        Some(list) => heaviest_of(graph, list),
+        None => heaviest(graph, part),
     }
 }
 
@@ -187,7 +187,7 @@ fn gather_heaviest_of(
     requires small { 32 * length own.now < 2 ^ 32 }
     ensures counts { result + size left.new ≡ size left.old }
     ensures frame { (n : ℕ) → Out (members left.old) n → Unchanged out.old out.new n }
-    ensures gathered { 0 < length list.now → Told list.now (members left.old) → GatheredIn graph.now (members left.old) (members own.now) (number side) heaviest left.new queue.new out.new result }
+    ensures gathered { Told list.now (members left.old) → GatheredIn graph.now (members left.old) (members own.now) (number side) heaviest left.new queue.new out.new result }
 {
     let mut count = 0;
     for place in list {
@@ -202,7 +202,7 @@ pub(crate) fn gather_targets(
     graph: &Graph,
     side: Side,
     heaviest: u32,
-    list: &[u32],
+    list: Option<&[u32]>,
     own: &[u32],
     left: &mut [u32],
     out: &mut [u32],
@@ -211,7 +211,7 @@ pub(crate) fn gather_targets(
     requires inside { (n : ℕ) → In (members left.old) n → n < length graph.now }
     requires answers { 2 * length graph.now ≤ length out.old }
     requires sets { length graph.now ≤ 32 * length own.now }
-    requires told { Told list.now (members left.old) }
+    requires told { ForSome list (λ list. Told list.now (members left.old)) }
     requires same { length left.old ≡ length own.now }
     requires room { size left.old ≤ length queue.old }
     requires small { 32 * length own.now < 2 ^ 32 }
@@ -219,10 +219,9 @@ pub(crate) fn gather_targets(
     ensures frame { (n : ℕ) → Out (members left.old) n → Unchanged out.old out.new n }
     ensures gathered { GatheredIn graph.now (members left.old) (members own.now) (number side) heaviest left.new queue.new out.new result }
 {
-    if list.len() == 0 {
-        gather_heaviest_in(graph, side, heaviest, own, left, out, queue)
-    } else {
-        gather_heaviest_of(graph, side, heaviest, list, own, left, out, queue)
+    match list {
+        Some(list) => gather_heaviest_of(graph, side, heaviest, list, own, left, out, queue),
+        None => gather_heaviest_in(graph, side, heaviest, own, left, out, queue),
     }
 }
 
@@ -303,7 +302,7 @@ pub(crate) fn gather_listed(
     requires room { size set.old ≤ length queue.old }
     ensures counts { result + size set.new ≡ size set.old }
     ensures same { result ≡ 0 → set.new ≡ set.old }
-    ensures starts { (R : Set) → 0 < length list.now → Within R (members set.old) → Told list.now R → Starts (members set.old) (having R (wanted winner out.now) (mark winner)) set.new queue.new result }
+    ensures starts { (R : Set) → Within R (members set.old) → Told list.now R → Starts (members set.old) (having R (wanted winner out.now) (mark winner)) set.new queue.new result }
 {
     let mut count = 0;
     for place in list {
@@ -316,22 +315,21 @@ pub(crate) fn gather_listed(
 /// and puts them into the queue.
 pub(crate) fn gather_lost(
     winner: Side,
-    list: &[u32],
+    list: Option<&[u32]>,
     set: &mut [u32],
     out: &[u32],
     queue: &mut [u32],
 ) -> usize
-    requires part { (R : Set) × Part set.old list.now R }
+    requires part { (R : Set) × Part set.old (option_copied list) R }
     requires answers { (n : ℕ) → In (members set.old) n → 2 * n < length out.now }
     requires room { size set.old ≤ length queue.old }
     requires small { 32 * length set.old < 2 ^ 32 }
     ensures counts { result + size set.new ≡ size set.old }
     ensures same { result ≡ 0 → set.new ≡ set.old }
-    ensures starts { (R : Set) → Part set.old list.now R → Starts (members set.old) (having R (side out.now) (number winner)) set.new queue.new result }
+    ensures starts { (R : Set) → Part set.old (option_copied list.entry) R → Starts (members set.old) (having R (side out.now) (number winner)) set.new queue.new result }
 {
-    if list.len() == 0 {
-        gather_won(winner, set, out, queue)
-    } else {
-        gather_listed(Some(winner), list, set, out, queue)
+    match list {
+        Some(list) => gather_listed(Some(winner), list, set, out, queue),
+        None => gather_won(winner, set, out, queue),
     }
 }

@@ -37,7 +37,7 @@ pub fn level(
         bound,
         many,
         own,
-        &[],
+        None,
         sets,
         spare,
         out,

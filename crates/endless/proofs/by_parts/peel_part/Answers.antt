@@ -1,4 +1,5 @@
 use Rattle.std.proofs.Common.{ℕ, List, sym, ◌∙◌, subst, inl, inr, arith}
+use Rattle.std.specs.Prelude.{option_copied}
 use Rattle.endless.specs.Subgames.{Subgame}
 use Rattle.endless.specs.Bits.{members}
 use Rattle.endless.specs.Sides.{number}
@@ -18,7 +19,7 @@ peel_won-requires c =
     record {
       inside = λ n x. c.requires.inside n (starts.rest n x);
       sized = record { sets = omega (arith, c.requires.sized.sets); answers = c.requires.sized.answers; cursors = c.requires.sized.cursors };
-      part = (r.0, subst (λ (l : List ℕ). Part l c.args.list.now r.0) (sym same) r.1);
+      part = (r.0, subst (λ (l : List ℕ). Part l (option_copied c.args.list) r.0) (sym same) r.1);
       counted = omega (arith, c.gather_lost-lost.ensures.counts, c.requires.counted);
       room = omega (arith, c.gather_lost-lost.ensures.counts, c.requires.room);
       small = omega (arith, c.requires.small);
@@ -38,7 +39,7 @@ returns-then-lost-eq0 c =
       peels = λ R sub part. inl (
         λ n u e. none_lost R c.args.out.now c.if-lost-eq0.true (c.gather_lost-lost.ensures.starts R part) n u (e ∙ sym c.other-loser.ensures),
         subst (λ (l : List ℕ). Peeled c.args.graph.now (members l) (number c.args.winner) R (members c.peel_won.new.own) c.args.out.now c.peel_won.new.out) same
-            (ends.peeled R (subst (λ (l : List ℕ). Subgame c.args.graph.now (members l)) (sym same) sub) (subst (λ (l : List ℕ). Part l c.args.list.now R) (sym same) part)),
+            (ends.peeled R (subst (λ (l : List ℕ). Subgame c.args.graph.now (members l)) (sym same) sub) (subst (λ (l : List ℕ). Part l (option_copied c.args.list) R) (sym same) part)),
       );
     }
 
