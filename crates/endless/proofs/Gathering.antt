@@ -1,5 +1,5 @@
 -- Going through the places of a set: the heaviest so far, and those that go to the queue.
-use Rattle.std.proofs.Common.{◌≡◌, ℕ, ◌+◌, ◌*◌, ◌<◌, ◌≤◌, max, false, ◌⊎◌, List, length, get_or, set, sym, ap, ◌∙◌, subst, inl, inr, arith}
+use Rattle.std.proofs.Common.{◌≡◌, ℕ, ◌+◌, ◌*◌, ◌<◌, ◌≤◌, false, ◌⊎◌, List, length, get_or, set, sym, ap, ◌∙◌, subst, inl, inr, arith}
 use Rattle.std.proofs.lemmas.List.{get_or-set_same, get_or-set_other, length-set}
 use Rattle.std.proofs.lemmas.Bool.{cases_eq, cases_lt, both_ways}
 use Rattle.endless.specs.Games.{Game, weight}
@@ -7,10 +7,10 @@ use Rattle.endless.specs.Says.{side, goes}
 use Rattle.endless.specs.Sets.{Set, In, Out, Within, having}
 use Rattle.endless.specs.Bits.{members, size, Removed, Least, NoneFrom}
 use Rattle.endless.specs.Pulling.{Passed, Unchanged, Starts}
-use Rattle.endless.specs.Levels.{HeaviestIn, GatheredIn, Stays, Given, Taken}
+use Rattle.endless.specs.Levels.{GatheredIn, Stays, Given, Taken}
 use Rattle.endless.proofs.Tests.{T_true, true_T}
 use Rattle.endless.proofs.Sets.{in_or_out, having_in, having_within, having_is}
-use Rattle.endless.proofs.SetLaws.{members_below, size_some, some_size}
+use Rattle.endless.proofs.SetLaws.{members_below, some_size}
 use Rattle.endless.proofs.Working.{put_goes, put_side, put_unchanged, unchanged_goes, same_side, removed_out, removed_within, removed_which}
 
 -- a member that a scan from `from` on would have found is below it
@@ -20,33 +20,6 @@ before l from n none x = go (cases_lt n from)
     go : (n < from) ⊎ (from ≤ n) → n < from
     go (inl e) = e
     go (inr e) = absurd (both_ways (members l n) (none e) (T_true _ x))
-
--- the heaviest of the members below `from`, if there is one
-pub record Weighing (g : Game) (l : List ℕ) (from h : ℕ) : Type 0 where
-  pub most : (n : ℕ) → In (members l) n → n < from → weight g n ≤ h
-  pub some_place : ((h ≡ 0) × ((n : ℕ) → n < from → Out (members l) n)) ⊎ ((n : ℕ) × In (members l) n × (weight g n ≡ h))
-
-pub weighing_more : {g : Game} {l : List ℕ} {from h m w r : ℕ} → Weighing g l from h → Least (members l) from m → w ≡ weight g m → r ≡ max h w → Weighing g l (m + 1) r
-weighing_more {g} {l} {from} {h} {m} {w} {r} k least weighs is = record {
-  most = λ n x lt. most n x lt (cases_eq n m);
-  some_place = inr (some_place k.some_place (cases_lt h w));
-}
-  where
-    most : (n : ℕ) → In (members l) n → n < m + 1 → (n ≡ m) ⊎ (n ≡ m → ⊥) → weight g n ≤ r
-    most n x lt (inl e) = omega (arith, weighs, ap (weight g) e)
-    most n x lt (inr d) = omega (arith, k.most n x (before l from n (λ e. least.none n e (omega arith)) x))
-
-    some_place : ((h ≡ 0) × ((n : ℕ) → n < from → Out (members l) n)) ⊎ ((n : ℕ) × In (members l) n × (weight g n ≡ h)) → (h < w) ⊎ (w ≤ h) → (n : ℕ) × In (members l) n × (weight g n ≡ r)
-    some_place (inl t) c = (m, true_T _ least.is, omega (arith, t.0, weighs))
-    some_place (inr t) (inl c) = (m, true_T _ least.is, omega (arith, weighs))
-    some_place (inr t) (inr c) = (t.0, t.1, omega (arith, t.2))
-
-pub weighing_all : {g : Game} {l : List ℕ} {from h : ℕ} → Weighing g l from h → NoneFrom (members l) from → 0 < size l → HeaviestIn g (members l) h
-weighing_all {g} {l} {from} {h} k none some = go k.some_place
-  where
-    go : ((h ≡ 0) × ((n : ℕ) → n < from → Out (members l) n)) ⊎ ((n : ℕ) × In (members l) n × (weight g n ≡ h)) → HeaviestIn g (members l) h
-    go (inl t) = let m = size_some l some in absurd (t.1 m.0 (before l from m.0 (none m.0) (true_T _ m.1)) (true_T _ m.1))
-    go (inr t) = record { most = λ n x. k.most n x (before l from n (none n) x); some_place = t }
 
 -- of the members of `own` below `from`, those at which f is k have gone from what is left to the queue
 pub record Gathering (f : ℕ → ℕ) (k : ℕ) (own left queue : List ℕ) (from count : ℕ) : Type 0 where

@@ -1,5 +1,5 @@
 -- Going through a list of places: the heaviest so far, and those that go to the queue.
-use Rattle.std.proofs.Common.{◌≡◌, ℕ, ◌+◌, ◌*◌, ◌<◌, ◌≤◌, max, ◌⊎◌, List, length, get_or, set, sym, refl, ap, ◌∙◌, subst, inl, inr, arith}
+use Rattle.std.proofs.Common.{◌≡◌, ℕ, ◌+◌, ◌*◌, ◌<◌, ◌≤◌, ◌⊎◌, List, length, get_or, set, sym, refl, ap, ◌∙◌, subst, inl, inr, arith}
 use Rattle.std.proofs.lemmas.List.{get_or-set_same, get_or-set_other}
 use Rattle.std.proofs.lemmas.Bool.{cases_eq, cases_lt}
 use Rattle.endless.specs.Games.{Game, weight}
@@ -24,29 +24,6 @@ pub told_some : (list part : List ℕ) → Told list (members part) → 0 < size
 told_some list part told h = let t = size_some part h in omega (arith, ((told t.0).0 (true_T _ t.1)).1)
 
 -- ---- the heaviest weight
-
-pub record Weighed (g : Game) (list : List ℕ) (i h : ℕ) : Type 0 where
-  pub most : (j : ℕ) → j < i → weight g (get_or list j 0) ≤ h
-  pub some_place : ((h ≡ 0) × (i ≡ 0)) ⊎ ((j : ℕ) × (j < i) × (weight g (get_or list j 0) ≡ h))
-
-pub weighed_more : {g : Game} {list : List ℕ} {i h w r : ℕ} → Weighed g list i h → w ≡ weight g (get_or list i 0) → r ≡ max h w → Weighed g list (i + 1) r
-weighed_more {g} {list} {i} {h} {w} {r} k weighs is = record { most = λ j l. most j l (cases_lt j i); some_place = inr (some_place k.some_place (cases_lt h w)) }
-  where
-    most : (j : ℕ) → j < i + 1 → (j < i) ⊎ (i ≤ j) → weight g (get_or list j 0) ≤ r
-    most j l (inl e) = omega (arith, k.most j e)
-    most j l (inr e) = omega (arith, weighs, ap (λ (x : ℕ). weight g (get_or list x 0)) (let t : j ≡ i = omega arith in t))
-
-    some_place : ((h ≡ 0) × (i ≡ 0)) ⊎ ((j : ℕ) × (j < i) × (weight g (get_or list j 0) ≡ h)) → (h < w) ⊎ (w ≤ h) → (j : ℕ) × (j < i + 1) × (weight g (get_or list j 0) ≡ r)
-    some_place (inl t) c = (i, omega arith, omega (arith, t.0, weighs))
-    some_place (inr t) (inl c) = (i, omega arith, omega (arith, weighs))
-    some_place (inr t) (inr c) = (t.0, omega (arith, t.1), omega (arith, t.2))
-
-pub weighed_all : {g : Game} {list : List ℕ} {i h : ℕ} → i ≡ length list → Weighed g list i h → 0 < length list → HeaviestOf g list h
-weighed_all {g} {list} {i} {h} end k some = go k.some_place
-  where
-    go : ((h ≡ 0) × (i ≡ 0)) ⊎ ((j : ℕ) × (j < i) × (weight g (get_or list j 0) ≡ h)) → HeaviestOf g list h
-    go (inl t) = absurd (omega (arith, t.1))
-    go (inr t) = record { most = λ j l. k.most j (omega arith); some_place = (t.0, omega (arith, t.1), t.2) }
 
 pub heaviest_told : (g : Game) (list : List ℕ) (R : Set) (h : ℕ) → Told list R → HeaviestOf g list h → HeaviestIn g R h
 heaviest_told g list R h told k = record {

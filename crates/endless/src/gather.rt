@@ -20,11 +20,8 @@ pub(crate) fn heaviest(graph: &Graph, set: &[u32]) -> u32
     requires small { 32 * length set.now < 2 ^ 32 }
     ensures { 0 < size set.now → HeaviestIn graph.now (members set.now) result }
 {
-    let mut heaviest: u32 = 0;
-    for place in bits::iter(set) {
-        heaviest = heaviest.max(graph.head(place).weight);
-    }
-    heaviest
+    let heaviest = bits::iter(set).map(|place| graph.head(place).weight).max();
+    heaviest.unwrap_or(0)
 }
 
 /// A move of a place that stays in the set, where it has one.
@@ -115,11 +112,8 @@ fn heaviest_of(graph: &Graph, list: &[u32]) -> u32
     requires { (j : ℕ) → j < length list.now → slice_index list.now j < length graph.now }
     ensures { 0 < length list.now → HeaviestOf graph.now list.now result }
 {
-    let mut most: u32 = 0;
-    for place in list {
-        most = most.max(graph.head(*place).weight);
-    }
-    most
+    let most = list.iter().map(|place| graph.head(*place).weight).max();
+    most.unwrap_or(0)
 }
 
 /// The heaviest weight of a part, told by a list of its places, if there is
