@@ -1,14 +1,11 @@
--- The members of a set as a list, as its iterator gives them.
-use Rattle.std.proofs.Common.{◌≡◌, ℕ, zero, suc, ◌+◌, ◌-◌, ◌*◌, ◌<◌, ◌≤◌, Bool, true, false, cond, ◌⊎◌, List, [], ◌∷◌, Option, Some, max, map, fold, option_map, unwrap_or, length, get_or, sym, refl, ap, ◌∙◌, inl, inr, arith}
+-- The members of a set as a list, as its iterator gives them; the heaviest of a list.
+use Rattle.std.proofs.Common.{◌≡◌, ℕ, zero, suc, ◌+◌, ◌-◌, ◌*◌, ◌<◌, ◌≤◌, Bool, true, false, cond, ◌⊎◌, List, [], ◌∷◌, Option, Some, max, map, fold, option_map, unwrap_or, length, get_or, sym, refl, ap, ◌∙◌, subst, inl, inr, arith}
 use Rattle.std.proofs.lemmas.Bool.{cases_eq, cases_lt, both_ways}
 use Rattle.std.proofs.lemmas.Iterator.{YieldsList}
 use Rattle.std.proofs.lemmas.Iterator.Consumers.{YieldsList-from_shown}
 use Rattle.std.specs.Option.{MatchOption}
 use Rattle.std.specs.List.{reduce}
-use Rattle.std.proofs.lemmas.Iterator.Adapters.{option_map_id, serves_from_places}
-use Rattle.std.proofs.lemmas.Grind.{get_or_default_zero}
-use Rattle.std.specs.Iterator.{CallableAtEachTurn}
-use Rattle.endless.specs.Sets.{In}
+use Rattle.std.proofs.lemmas.Iterator.Adapters.{option_map_id}
 use Rattle.endless.specs.Games.{Game, weight}
 use Rattle.endless.specs.Levels.{HeaviestOf}
 use Rattle.endless.specs.Bits.{members, Least, NoneFrom}
@@ -56,29 +53,32 @@ listed_is f i (suc n) k h = go (f i) refl (listed_is f (suc i) n) k h
     go false is later k h = later k h
 
 -- the list of all members tells the set
-pub listed_told : (l : List ℕ) → Told (listed (members l) 0 (32 * length l - 0)) (members l)
-listed_told l n = (
-  λ x. listed_has (members l) 0 (32 * length l - 0) n (omega arith) (omega (arith, members_below l n (T_true _ x))) (T_true _ x),
-  λ p. true_T _ (ap (members l) (sym p.2) ∙ listed_is (members l) 0 (32 * length l - 0) p.0 p.1),
+abbrev pub all_members : List ℕ → List ℕ
+all_members l = listed (members l) 0 (32 * length l)
+
+pub members_told : (l : List ℕ) → Told (all_members l) (members l)
+members_told l n = (
+  λ x. listed_has (members l) 0 (32 * length l) n (omega arith) (omega (arith, members_below l n (T_true _ x))) (T_true _ x),
+  λ p. true_T _ (ap (members l) (sym p.2) ∙ listed_is (members l) 0 (32 * length l) p.0 p.1),
 )
 
--- what a call of its iterator's `next` gives
-abbrev pub gives : Members → Option ℕ → Members → Type 0
+-- what a call of the set's iterator gives
+abbrev gives : Members → Option ℕ → Members → Type 0
 gives s r t = (t.set.now ≡ s.set.now) × MatchOption r (NoneFrom (members s.set.now) s.from) (λ m. Least (members s.set.now) s.from m × (t.from ≡ m + 1))
 
--- and its iterator gives that list
-abbrev pub left_in : Members → List ℕ
-left_in s = listed (members s.set.now) s.from (32 * length s.set.now - s.from)
+abbrev left_in : Members → List ℕ
+left_in t = listed (members t.set.now) t.from (32 * length t.set.now - t.from)
 
-pub yields_listed : (s : Members) → YieldsList gives (λ n. n) s (left_in s)
-yields_listed = YieldsList-from_shown gives (λ n. n) left_in (λ s t e. ap length (listed_none (members s.set.now) s.from _ e.1)) first
-  where
-    first : (s : Members) (x : ℕ) (t : Members) → gives s (Some x) t → left_in s ≡ x ∷ left_in t
-    first s x t e = rw (e.0, e.1.1) (let l : x < 32 * length s.set.now = members_below s.set.now x e.1.0.is in listed_first (members s.set.now) s.from (32 * length s.set.now - s.from) x (32 * length s.set.now - (x + 1)) e.1.0 (omega (arith, e.1.0.after)))
+-- and so it gives that list
+module _ {s : Members} {l : List ℕ} (are : s.set.now ≡ l) (from : s.from ≡ 0) where
+  pub yields_members : YieldsList gives (λ n. n) s (all_members l)
+  yields_members = subst (YieldsList gives (λ n. n) s) all (YieldsList-from_shown gives (λ n. n) left_in (λ t u e. ap length (listed_none (members t.set.now) t.from _ e.1)) first s)
+    where
+      first : (t : Members) (x : ℕ) (u : Members) → gives t (Some x) u → left_in t ≡ x ∷ left_in u
+      first t x u e = rw (e.0, e.1.1) (let l : x < 32 * length t.set.now = members_below t.set.now x e.1.0.is in listed_first (members t.set.now) t.from (32 * length t.set.now - t.from) x (32 * length t.set.now - (x + 1)) e.1.0 (omega (arith, e.1.0.after)))
 
--- what may be asked of each member may be asked of all that the iterator gives
-pub serves_members : {F : Type 0} {R : F → ℕ → F → Type 0} {Q : F → ℕ → Type 0} {f : F} (s : Members) → ((x : ℕ) (q : F) → R f x q → q ≡ f) → ((x : ℕ) → In (members s.set.now) x → Q f x) → CallableAtEachTurn gives R Q s f
-serves_members s stays may = serves_from_places (yields_listed s) stays (λ x k h is. may x (true_T _ (ap (members s.set.now) (is ∙ get_or_default_zero (left_in s) k x h) ∙ listed_is (members s.set.now) s.from _ k h)))
+      all : left_in s ≡ all_members l
+      all = let none : 32 * length l - 0 ≡ 32 * length l = omega arith in rw (are, from) (ap (listed (members l) 0) none)
 
 -- the greatest of a number and the weights of a list of places
 record Greatest (g : Game) (xs : List ℕ) (a r : ℕ) : Type 0 where

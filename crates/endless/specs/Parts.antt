@@ -1,6 +1,7 @@
 -- A closed part of a subgame: all that can be come to from a place.
 use Rattle.std.specs.Prelude.{◌≡◌, ℕ, ◌+◌, ◌<◌, ◌≤◌, ◌⊎◌, ◌↔◌, List, length, Some, None, Option, option_map, unwrap_or, ◌≢◌, slice_index, slice_set}
 use Rattle.std.specs.Option.{ForSome}
+use Rattle.std.specs.Iterator.{AlwaysYields}
 use Rattle.endless.specs.Games.{Game}
 use Rattle.endless.specs.Says.{side}
 use Rattle.endless.specs.Sets.{Set, In, Within}
@@ -31,6 +32,10 @@ Told list R = (n : ℕ) → In R n ↔ Passed list (length list) n
 -- a list has all places of a set
 abbrev pub Covers : List ℕ → List ℕ → Type 0
 Covers own list = (n : ℕ) → In (members own) n → Passed list (length list) n
+
+-- an iterator of places gives those of a list, one after another, and no others
+abbrev pub Gives : {S : Type 0} → (S → Option ℕ → S → Type 0) → S → List ℕ → Type 0
+Gives next_gives s list = AlwaysYields next_gives (λ n. n) s list
 
 -- R is a part of what words hold, with a place of it, if there is any: told by a list of its places, or else all of it
 pub record Part (own : List ℕ) (list : Option (List ℕ)) (R : Set) : Type 0 where

@@ -1,26 +1,28 @@
 //! Places of a set, gathered into the queue: the heaviest, and those that a side has won.
-ghost use Rattle.std.specs.Prelude.{◌≡◌, ℕ, ◌+◌, ◌*◌, ◌^◌, ◌<◌, ◌≤◌, length, option_copied, ◌==◌, slice_index};
+ghost use Rattle.std.specs.Prelude.{◌≡◌, ℕ, ◌+◌, ◌*◌, ◌^◌, ◌<◌, ◌≤◌, List, length, option_copied, ◌==◌, slice_index};
 ghost use Rattle.std.specs.Option.{ForSome};
+ghost use Rattle.std.specs.Iterator.{IsFinite};
 ghost use Rattle.endless.specs.Says.{side};
 ghost use Rattle.endless.specs.Sets.{Set, In, Out, Within, having};
 ghost use Rattle.endless.specs.Sides.{number};
 ghost use Rattle.endless.specs.Bits.{members, size};
 ghost use Rattle.endless.specs.Pulling.{Unchanged, Starts};
 ghost use Rattle.endless.specs.Levels.{HeaviestIn, HeaviestOf, GatheredIn, Given, Taken, TakenIf, Stays};
-ghost use Rattle.endless.specs.Parts.{Told, Part, PickedIf, wanted, mark};
+ghost use Rattle.endless.specs.Parts.{Told, Covers, Gives, Part, PickedIf, wanted, mark};
 
 use crate::attractor::first_into;
 use crate::bits;
 use crate::graph::Graph;
 use crate::side::Side;
 
-/// The heaviest weight of the places of a set.
-pub(crate) fn heaviest(graph: &Graph, set: &[u32]) -> u32
-    requires inside { (n : ℕ) → In (members set.now) n → n < length graph.now }
-    requires small { 32 * length set.now < 2 ^ 32 }
-    ensures { 0 < size set.now → HeaviestIn graph.now (members set.now) result }
+/// The heaviest weight of these places.
+fn heaviest<I: Iterator<Item = u32> + Drop>(graph: &Graph, places: I) -> u32
+    requires can { I.can_next places }
+    requires ends { IsFinite (I.remaining places) }
+    requires inside { (list : List ℕ) × Gives I.next_gives places list × ((j : ℕ) → j < length list → slice_index list j < length graph.now) }
+    ensures { (list : List ℕ) → Gives I.next_gives places list → 0 < length list → HeaviestOf graph.now list result }
 {
-    let heaviest = bits::iter(set).map(|place| graph.head(place).weight).max();
+    let heaviest = places.map(|place| graph.head(place).weight).max();
     heaviest.unwrap_or(0)
 }
 
@@ -73,49 +75,6 @@ fn take_place(
     queue[count] = place;
 }
 
-/// Puts the places of a weight into the queue, each given to `side` with a
-/// move of it that stays in `own`; `left`, a part of it, becomes the others.
-fn gather_heaviest_in(
-    graph: &Graph,
-    side: Side,
-    heaviest: u32,
-    own: &[u32],
-    left: &mut [u32],
-    out: &mut [u32],
-    queue: &mut [u32],
-) -> usize
-    requires inside { (n : ℕ) → In (members left.old) n → n < length graph.now }
-    requires answers { 2 * length graph.now ≤ length out.old }
-    requires sets { length graph.now ≤ 32 * length own.now }
-    requires same { length left.old ≡ length own.now }
-    requires room { size left.old ≤ length queue.old }
-    requires small { 32 * length own.now < 2 ^ 32 }
-    ensures counts { result + size left.new ≡ size left.old }
-    ensures frame { (n : ℕ) → Out (members left.old) n → Unchanged out.old out.new n }
-    ensures gathered { GatheredIn graph.now (members left.old) (members own.now) (number side) heaviest left.new queue.new out.new result }
-{
-    let mut count = 0;
-    let mut from = 0;
-    // The set loses members on the way, so that no iterator can borrow it.
-    while let Some(place) = bits::next(left, from) {
-        if graph.head(place).weight == heaviest {
-            take_place(graph, side, place, own, left, out, queue, count);
-            count += 1;
-        }
-        from = place + 1;
-    }
-    count
-}
-
-/// The heaviest weight of the places of a list.
-fn heaviest_of(graph: &Graph, list: &[u32]) -> u32
-    requires { (j : ℕ) → j < length list.now → slice_index list.now j < length graph.now }
-    ensures { 0 < length list.now → HeaviestOf graph.now list.now result }
-{
-    let most = list.iter().map(|place| graph.head(*place).weight).max();
-    most.unwrap_or(0)
-}
-
 /// The heaviest weight of a part, told by a list of its places, if there is
 /// one.
 pub(crate) fn heaviest_in(graph: &Graph, list: Option<&[u32]>, part: &[u32]) -> u32
@@ -125,8 +84,8 @@ pub(crate) fn heaviest_in(graph: &Graph, list: Option<&[u32]>, part: &[u32]) -> 
     ensures { 0 < size part.now → HeaviestIn graph.now (members part.now) result }
 {
     match list {
-        Some(list) => heaviest_of(graph, list),
-        None => heaviest(graph, part),
+        Some(list) => heaviest(graph, list.iter().copied()),
+        None => heaviest(graph, bits::iter(part)),
     }
 }
 
@@ -162,18 +121,22 @@ fn take_heavy(
     count + 1
 }
 
-/// Does what `gather_heaviest_in` does, by a list of the places.
-fn gather_heaviest_of(
+/// Puts the places of a weight into the queue, each given to `side` with a
+/// move of it that stays in `own`; `left`, of which these are all places,
+/// becomes the others.
+fn gather_heaviest<I: Iterator<Item = u32> + Drop>(
     graph: &Graph,
     side: Side,
     heaviest: u32,
-    list: &[u32],
+    places: I,
     own: &[u32],
     left: &mut [u32],
     out: &mut [u32],
     queue: &mut [u32],
 ) -> usize
-    requires inside { (j : ℕ) → j < length list.now → slice_index list.now j < length graph.now }
+    requires can { I.can_next places }
+    requires ends { IsFinite (I.remaining places) }
+    requires inside { (list : List ℕ) × Gives I.next_gives places list × ((j : ℕ) → j < length list → slice_index list j < length graph.now) }
     requires answers { 2 * length graph.now ≤ length out.old }
     requires sets { length graph.now ≤ 32 * length own.now }
     requires same { length left.old ≡ length own.now }
@@ -181,11 +144,11 @@ fn gather_heaviest_of(
     requires small { 32 * length own.now < 2 ^ 32 }
     ensures counts { result + size left.new ≡ size left.old }
     ensures frame { (n : ℕ) → Out (members left.old) n → Unchanged out.old out.new n }
-    ensures gathered { Told list.now (members left.old) → GatheredIn graph.now (members left.old) (members own.now) (number side) heaviest left.new queue.new out.new result }
+    ensures gathered { (list : List ℕ) → Gives I.next_gives places list → Covers left.old list → GatheredIn graph.now (members left.old) (members own.now) (number side) heaviest left.new queue.new out.new result }
 {
     let mut count = 0;
-    for place in list {
-        count = take_heavy(graph, side, heaviest, *place, own, left, out, queue, count);
+    for place in places {
+        count = take_heavy(graph, side, heaviest, place, own, left, out, queue, count);
     }
     count
 }
@@ -202,7 +165,8 @@ pub(crate) fn gather_targets(
     out: &mut [u32],
     queue: &mut [u32],
 ) -> usize
-    requires inside { (n : ℕ) → In (members left.old) n → n < length graph.now }
+    requires inside { (n : ℕ) → In (members own.now) n → n < length graph.now }
+    requires part { Within (members left.old) (members own.now) }
     requires answers { 2 * length graph.now ≤ length out.old }
     requires sets { length graph.now ≤ 32 * length own.now }
     requires told { ForSome list (λ list. Told list.now (members left.old)) }
@@ -214,8 +178,14 @@ pub(crate) fn gather_targets(
     ensures gathered { GatheredIn graph.now (members left.old) (members own.now) (number side) heaviest left.new queue.new out.new result }
 {
     match list {
-        Some(list) => gather_heaviest_of(graph, side, heaviest, list, own, left, out, queue),
-        None => gather_heaviest_in(graph, side, heaviest, own, left, out, queue),
+        Some(list) => {
+            let places = list.iter().copied();
+            gather_heaviest(graph, side, heaviest, places, own, left, out, queue)
+        }
+        None => {
+            let places = bits::iter(own);
+            gather_heaviest(graph, side, heaviest, places, own, left, out, queue)
+        }
     }
 }
 
@@ -232,7 +202,8 @@ pub(crate) fn gather_won(winner: Side, set: &mut [u32], out: &[u32], queue: &mut
     let word = winner.to_word();
     let mut count = 0;
     let mut from = 0;
-    // The set loses members on the way, so that no iterator can borrow it.
+    // The set loses members on the way, so that no iterator can borrow it, as
+    // one borrows the list of `gather_listed`.
     while let Some(place) = bits::next(set, from) {
         if out[2 * place as usize] == word {
             bits::remove(set, place);

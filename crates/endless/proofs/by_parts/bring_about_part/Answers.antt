@@ -10,9 +10,6 @@ use Rattle.endless.proofs.by_parts.bring_about_part.Goals as goal
 pub heaviest_in-weight-requires-clause-inside : goal.heaviest_in-weight-requires-clause-inside
 heaviest_in-weight-requires-clause-inside c = λ n x. c.requires.inside n (c.requires.part.within n x)
 
-pub gather_targets-targets-requires-clause-inside : goal.gather_targets-targets-requires-clause-inside
-gather_targets-targets-requires-clause-inside c = λ n x. c.requires.inside n (c.requires.part.within n x)
-
 pub gather_targets-targets-requires-clause-room : goal.gather_targets-targets-requires-clause-room
 gather_targets-targets-requires-clause-room c = omega (arith, c.requires.room, size_sub c.args.left.now c.args.own.now c.requires.same (λ j x. T_true _ (c.requires.part.within j (true_T _ x))))
 
