@@ -9,7 +9,7 @@ use Rattle.endless.specs.Bits.{members, count, size}
 use Rattle.endless.specs.Weights.{weighing, occurs}
 use Rattle.endless.specs.View.{Playable}
 use Rattle.endless.specs.Pulling.{Unchanged, Moved, Starts, Attracts}
-use Rattle.endless.specs.Levels.{HeaviestIn, GatheredIn, Brought, Peeled, Peels, Reduces, levels, Room}
+use Rattle.endless.specs.Levels.{HeaviestIn, GatheredIn, Brought, Peeled, Peels, Reduces, Lent, levels, Room}
 use Rattle.endless.proofs.Tests.{T_true, true_T}
 use Rattle.endless.proofs.Sets.{in_or_out, minus_out, having_in, having_within}
 use Rattle.endless.proofs.CountLaws.{count_more_yes, count_add, some_count}
@@ -161,6 +161,15 @@ room_now {g = g} {bound = bound} {own = own} {own' = own'} r k long-w long-r lon
   queues = omega (arith, r.queues, size_sub own' own long-w (λ j x. T_true _ (k.less j (true_T _ x))));
   small = omega (arith, r.small);
   sets = omega (arith, r.sets, ap (λ (k : ℕ). levels g bound * k) long-w);
+}
+
+-- the room of a level is lent to its steps
+pub room_lent : {g : Game} {bound : ℕ} {own rest out queue escapes out' queue' escapes' : List ℕ} → Room g bound own rest out queue escapes → length out' ≡ length out → length queue' ≡ length queue → length escapes' ≡ length escapes → Lent g own out' queue' escapes'
+room_lent r long-o long-q long-e = record {
+  inside = r.subgame.places;
+  sized = record { sets = r.sized.sets; answers = omega (arith, r.sized.answers); cursors = omega (arith, r.sized.cursors) };
+  queues = omega (arith, r.queues);
+  small = r.small;
 }
 
 -- the weights below are lighter

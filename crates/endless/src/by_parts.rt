@@ -8,7 +8,7 @@ ghost use Rattle.endless.specs.Subgames.{Subgame, Closed, Solves};
 ghost use Rattle.endless.specs.Sides.{number};
 ghost use Rattle.endless.specs.Bits.{members, size};
 ghost use Rattle.endless.specs.Pulling.{Unchanged, Sized};
-ghost use Rattle.endless.specs.Levels.{HeaviestIn, Brought, Peeled, Peels, Room};
+ghost use Rattle.endless.specs.Levels.{HeaviestIn, Lent, Brought, Peeled, Peels, Room};
 ghost use Rattle.endless.specs.Parts.{Covers, Part, Saved};
 ghost use Rattle.endless.specs.View.{Playable};
 
@@ -61,13 +61,10 @@ fn bring_about_part(
     queue: &mut [u32],
     escapes: &mut [u32],
 ) -> (u32, usize)
-    requires inside { (n : ℕ) → In (members own.now) n → n < length graph.now }
-    requires sized { Sized graph.now own.now out.old escapes.old }
+    requires lent { Lent graph.now own.now out.old queue.old escapes.old }
     requires part { Part own.now (option_copied list) (members left.old) }
     requires counted { unwrap_or (option_map length (option_copied list)) many ≡ size left.old }
     requires same { length left.old ≡ length own.now }
-    requires room { size own.now ≤ length queue.old }
-    requires small { 32 * length own.now < 2 ^ 32 }
     ensures heaviest { 0 < size left.old → HeaviestIn graph.now (members left.old) result.0 }
     ensures rest { result.1 ≡ size left.new }
     ensures frame { (n : ℕ) → Out (members left.old) n → Unchanged out.old out.new n }
@@ -94,12 +91,9 @@ fn peel_won(
     queue: &mut [u32],
     escapes: &mut [u32],
 ) -> usize
-    requires inside { (n : ℕ) → In (members own.old) n → n < length graph.now }
-    requires sized { Sized graph.now own.old out.old escapes.old }
+    requires lent { Lent graph.now own.old out.old queue.old escapes.old }
     requires part { (R : Set) × Part own.old (option_copied list) R }
     requires counted { many ≡ size own.old }
-    requires room { size own.old ≤ length queue.old }
-    requires small { 32 * length own.old < 2 ^ 32 }
     ensures rest { result ≡ size own.new }
     ensures falls { 0 < size own.old → size own.new < size own.old }
     ensures less { Within (members own.new) (members own.old) }
@@ -133,12 +127,9 @@ fn peel_part(
     queue: &mut [u32],
     escapes: &mut [u32],
 ) -> usize
-    requires inside { (n : ℕ) → In (members own.old) n → n < length graph.now }
-    requires sized { Sized graph.now own.old out.old escapes.old }
+    requires lent { Lent graph.now own.old out.old queue.old escapes.old }
     requires part { (R : Set) × Part own.old (option_copied list) R }
     requires counted { many ≡ size own.old }
-    requires room { size own.old ≤ length queue.old }
-    requires small { 32 * length own.old < 2 ^ 32 }
     ensures rest { result ≡ size own.new }
     ensures falls { 0 < size own.old → size own.new < size own.old }
     ensures less { Within (members own.new) (members own.old) }

@@ -7,7 +7,7 @@ ghost use Rattle.endless.specs.Sets.{Set, In, Out, Within, having};
 ghost use Rattle.endless.specs.Sides.{number};
 ghost use Rattle.endless.specs.Bits.{members, size};
 ghost use Rattle.endless.specs.Pulling.{Unchanged, Starts};
-ghost use Rattle.endless.specs.Levels.{HeaviestIn, HeaviestOf, GatheredIn, Given, Taken, TakenIf, Stays};
+ghost use Rattle.endless.specs.Levels.{HeaviestIn, HeaviestOf, GatheredIn, Fitting, Given, Taken, TakenIf, Stays};
 ghost use Rattle.endless.specs.Parts.{Told, Covers, Gives, Part, PickedIf, wanted, mark};
 
 use crate::attractor::first_into;
@@ -64,9 +64,7 @@ fn take_place(
     count: usize,
 )
     requires place { place < length graph.now }
-    requires answers { 2 * length graph.now ≤ length out.old }
-    requires sets { length graph.now ≤ 32 * length own.now }
-    requires same { length left.old ≡ length own.now }
+    requires fitting { Fitting graph.now own.now left.old out.old }
     requires room { count < length queue.old }
     ensures { Taken graph.now (number side) place (members own.now) count left.old queue.old out.old left.new queue.new out.new }
 {
@@ -103,12 +101,9 @@ fn take_heavy(
     count: usize,
 ) -> usize
     requires place { place < length graph.now }
-    requires answers { 2 * length graph.now ≤ length out.old }
-    requires sets { length graph.now ≤ 32 * length own.now }
-    requires same { length left.old ≡ length own.now }
+    requires fitting { Fitting graph.now own.now left.old out.old }
     requires room { count + size left.old ≤ length queue.old }
     requires few { count ≤ 32 * length own.now }
-    requires small { 32 * length own.now < 2 ^ 32 }
     ensures { TakenIf graph.now (number side) heaviest place (members own.now) count left.old queue.old out.old left.new queue.new out.new result }
 {
     if !bits::has(left, place) {
@@ -137,11 +132,8 @@ fn gather_heaviest<I: Iterator<Item = u32> + Drop>(
     requires can { I.can_next places }
     requires ends { IsFinite (I.remaining places) }
     requires inside { (list : List ℕ) × Gives I.next_gives places list × ((j : ℕ) → j < length list → slice_index list j < length graph.now) }
-    requires answers { 2 * length graph.now ≤ length out.old }
-    requires sets { length graph.now ≤ 32 * length own.now }
-    requires same { length left.old ≡ length own.now }
+    requires fitting { Fitting graph.now own.now left.old out.old }
     requires room { size left.old ≤ length queue.old }
-    requires small { 32 * length own.now < 2 ^ 32 }
     ensures counts { result + size left.new ≡ size left.old }
     ensures frame { (n : ℕ) → Out (members left.old) n → Unchanged out.old out.new n }
     ensures gathered { (list : List ℕ) → Gives I.next_gives places list → Covers left.old list → GatheredIn graph.now (members left.old) (members own.now) (number side) heaviest left.new queue.new out.new result }
@@ -167,12 +159,9 @@ pub(crate) fn gather_targets(
 ) -> usize
     requires inside { (n : ℕ) → In (members own.now) n → n < length graph.now }
     requires part { Within (members left.old) (members own.now) }
-    requires answers { 2 * length graph.now ≤ length out.old }
-    requires sets { length graph.now ≤ 32 * length own.now }
+    requires fitting { Fitting graph.now own.now left.old out.old }
     requires told { ForSome list (λ list. Told list.now (members left.old)) }
-    requires same { length left.old ≡ length own.now }
     requires room { size left.old ≤ length queue.old }
-    requires small { 32 * length own.now < 2 ^ 32 }
     ensures counts { result + size left.new ≡ size left.old }
     ensures frame { (n : ℕ) → Out (members left.old) n → Unchanged out.old out.new n }
     ensures gathered { GatheredIn graph.now (members left.old) (members own.now) (number side) heaviest left.new queue.new out.new result }

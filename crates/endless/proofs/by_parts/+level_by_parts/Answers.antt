@@ -11,7 +11,7 @@ use Rattle.endless.proofs.Places.{other_below, not_other}
 use Rattle.endless.proofs.Tests.{T_true}
 use Rattle.endless.proofs.SetLaws.{members_below}
 use Rattle.endless.proofs.Picking.{told_in}
-use Rattle.endless.proofs.Levels.{room_now, room_set, room_light, room_below, leveling_more, leveling_all, solves_none}
+use Rattle.endless.proofs.Levels.{room_now, room_lent, room_set, room_light, room_below, leveling_more, leveling_all, solves_none}
 use Rattle.endless.proofs.by_parts.+level_by_parts.Goals as goal
 use Rattle.endless.proofs.by_parts.+level_by_parts.Goals.{then-below-gt0, else-below-gt0}
 
@@ -30,8 +30,8 @@ take_part-count-requires-clause-queues t c = omega (arith, c.loop-remaining.inva
 pub save-beyond-requires : goal.save-beyond-requires
 save-beyond-requires t c = λ k e. let fits = rw e at c.take_part-count.ensures.fits in (omega (arith, c.take_part-count.ensures.taken.few k e, c.loop-remaining.invariant.2.queues), omega (arith, fits))
 
-pub bring_about_part-weight-requires-clause-sized : goal.bring_about_part-weight-requires-clause-sized
-bring_about_part-weight-requires-clause-sized t c = let k = c.loop-remaining.invariant.2.sized in record { sets = k.sets; answers = omega (arith, k.answers); cursors = omega (arith, k.cursors) }
+pub bring_about_part-weight-requires-clause-lent : goal.bring_about_part-weight-requires-clause-lent
+bring_about_part-weight-requires-clause-lent t c = room_lent c.loop-remaining.invariant.2 (omega arith) (omega arith) (omega arith)
 
 pub bring_about_part-weight-requires-clause-part : goal.bring_about_part-weight-requires-clause-part
 bring_about_part-weight-requires-clause-part t c = c.take_part-count.ensures.taken.listed (option_copied c.save-beyond.result.0) c.save-beyond.ensures
@@ -62,8 +62,8 @@ level_by_parts-requires t c =
       ),
     )
 
-pub peel_part-remaining-requires-clause-sized : goal.peel_part-remaining-requires-clause-sized
-peel_part-remaining-requires-clause-sized t c = let k = c.loop-remaining.invariant.2.sized in record { sets = k.sets; answers = omega (arith, k.answers); cursors = omega (arith, k.cursors) }
+pub peel_part-remaining-requires-clause-lent : goal.peel_part-remaining-requires-clause-lent
+peel_part-remaining-requires-clause-lent t c = room_lent c.loop-remaining.invariant.2 (omega arith) (omega arith) (omega arith)
 
 pub peel_part-remaining-requires-clause-part : goal.peel_part-remaining-requires-clause-part
 peel_part-remaining-requires-clause-part t c = (members c.take_part-count.new.part, c.take_part-count.ensures.taken.listed (option_copied c.save-beyond.result.0) c.save-beyond.ensures)

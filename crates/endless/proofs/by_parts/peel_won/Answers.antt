@@ -21,7 +21,7 @@ returns-in-None c = record {
 }
 
 pub gather_listed-targets-requires-clause-answers : goal.gather_listed-targets-requires-clause-answers
-gather_listed-targets-requires-clause-answers c = λ j h. let r = c.requires.part in omega (arith, c.requires.inside _ (r.1.within _ (told_in c.in-Some.list.now r.0 (r.1.told _ (ap option_copied c.in-Some.is)) j h)), c.requires.sized.answers)
+gather_listed-targets-requires-clause-answers c = λ j h. let r = c.requires.part in omega (arith, c.requires.lent.inside _ (r.1.within _ (told_in c.in-Some.list.now r.0 (r.1.told _ (ap option_copied c.in-Some.is)) j h)), c.requires.lent.sized.answers)
 
 pub gather_listed-targets-requires-clause-inside : goal.gather_listed-targets-requires-clause-inside
 gather_listed-targets-requires-clause-inside c = λ j h. let r = c.requires.part in members_below c.args.own.now _ (T_true _ (r.1.within _ (told_in c.in-Some.list.now r.0 (r.1.told _ (ap option_copied c.in-Some.is)) j h)))
@@ -31,10 +31,10 @@ attract_counted-taken-requires c =
     let r = c.requires.part in
     let starts = c.gather_listed-targets.ensures.starts r.0 r.1.within (r.1.told _ (ap option_copied c.in-Some.is)) in
     record {
-      sized = record { sets = omega (arith, c.requires.sized.sets); answers = c.requires.sized.answers; cursors = c.requires.sized.cursors };
-      inside = λ n x. c.requires.inside n (starts.rest n x);
-      targets = λ j h. c.requires.inside _ (starts.inside _ (starts.first j h));
-      room = omega (arith, c.gather_listed-targets.ensures.counts, c.requires.room);
+      sized = record { sets = omega (arith, c.requires.lent.sized.sets); answers = c.requires.lent.sized.answers; cursors = c.requires.lent.sized.cursors };
+      inside = λ n x. c.requires.lent.inside n (starts.rest n x);
+      targets = λ j h. c.requires.lent.inside _ (starts.inside _ (starts.first j h));
+      room = omega (arith, c.gather_listed-targets.ensures.counts, c.requires.lent.queues);
       counted = c.requires.counted ∙ sym c.gather_listed-targets.ensures.counts;
     }
 
