@@ -11,6 +11,11 @@ use Rattle.endless.specs.Bits.{members, size, Removed}
 use Rattle.endless.specs.Pulling.{Passed}
 use Rattle.endless.specs.declared.side.Side.{Side}
 
+-- a part has as many words as its set, and the queue has room for all places of the set
+pub record Spacious (own part queue : List ℕ) : Type 0 where
+  pub same : length part ≡ length own
+  pub room : size own ≤ length queue
+
 -- the first `count` places of the queue are the places of a part of a set, each once
 pub record Listing (own part queue : List ℕ) (count : ℕ) : Type 0 where
   pub inside : Within (members part) (members own)

@@ -4,7 +4,7 @@ ghost use Rattle.std.specs.Option.{ForSome};
 ghost use Rattle.endless.specs.Sets.{In, Within};
 ghost use Rattle.endless.specs.Subgames.{Closed};
 ghost use Rattle.endless.specs.Bits.{members, size};
-ghost use Rattle.endless.specs.Parts.{Listing, Spread, Covers, PartTaken};
+ghost use Rattle.endless.specs.Parts.{Spacious, Listing, Spread, Covers, PartTaken};
 
 use crate::bits;
 use crate::graph::Graph;
@@ -13,8 +13,7 @@ use crate::graph::Graph;
 /// the set and not there yet. The number of places in the queue then.
 fn spread_to(place: u32, set: &[u32], part: &mut [u32], queue: &mut [u32], count: usize) -> usize
     requires inside { place < 32 * length set.now }
-    requires same { length part.old ≡ length set.now }
-    requires room { size set.now ≤ length queue.old }
+    requires spacious { Spacious set.now part.old queue.old }
     requires lists { Listing set.now part.old queue.old count }
     ensures spread { Spread set.now part.old queue.old count part.new queue.new result }
     ensures holds { In (members set.now) place → In (members part.new) place }
@@ -39,8 +38,7 @@ fn spread_over(
     filled: usize,
 ) -> usize
     requires inside { (k : ℕ) → k < length places.now → slice_index places.now k < 32 * length set.now }
-    requires same { length part.old ≡ length set.now }
-    requires room { size set.now ≤ length queue.old }
+    requires spacious { Spacious set.now part.old queue.old }
     requires lists { Listing set.now part.old queue.old filled }
     ensures spread { Spread set.now part.old queue.old filled part.new queue.new result }
     ensures holds { (k : ℕ) → k < length places.now → In (members set.now) (slice_index places.now k) → In (members part.new) (slice_index places.now k) }
@@ -58,8 +56,7 @@ pub fn reach(graph: &Graph, start: u32, set: &[u32], part: &mut [u32], queue: &m
     requires sets { length graph.now ≤ 32 * length set.now }
     requires places { (n : ℕ) → In (members set.now) n → n < length graph.now }
     requires first { In (members set.now) start }
-    requires same { length part.old ≡ length set.now }
-    requires room { size set.now ≤ length queue.old }
+    requires spacious { Spacious set.now part.old queue.old }
     ensures lists { Listing set.now part.new queue.new result }
     ensures few { result ≤ size set.now }
     ensures holds { In (members part.new) start }
@@ -90,8 +87,7 @@ fn part_from(
 ) -> Option<usize>
     requires sets { length graph.now ≤ 32 * length set.now }
     requires places { (n : ℕ) → In (members set.now) n → n < length graph.now }
-    requires same { length part.old ≡ length set.now }
-    requires queues { size set.now ≤ length queue.old }
+    requires spacious { Spacious set.now part.old queue.old }
     ensures fits { IfSome result (λ k. k ≤ room) }
     ensures taken { PartTaken graph.now set.now part.new queue.new result }
 {
@@ -109,8 +105,7 @@ fn part_from(
 /// and makes `part` the same set. How many there are.
 fn list_all(list: &[u32], set: &[u32], part: &mut [u32], queue: &mut [u32]) -> usize
     requires inside { (j : ℕ) → j < length list.now → slice_index list.now j < 32 * length set.now }
-    requires same { length part.old ≡ length set.now }
-    requires room { size set.now ≤ length queue.old }
+    requires spacious { Spacious set.now part.old queue.old }
     ensures lists { Listing set.now part.new queue.new result }
     ensures all { Covers set.now list.now → Within (members set.now) (members part.new) }
 {
@@ -131,8 +126,7 @@ fn part_within(
 ) -> Option<usize>
     requires covers { ForSome within (λ list. Covers set.now list.now) }
     requires inside { ForSome within (λ list. (j : ℕ) → j < length list.now → slice_index list.now j < 32 * length set.now) }
-    requires same { length part.old ≡ length set.now }
-    requires queues { size set.now ≤ length queue.old }
+    requires spacious { Spacious set.now part.old queue.old }
     ensures fits { IfSome result (λ k. k ≤ room) }
     ensures taken { PartTaken graph.now set.now part.new queue.new result }
 {
@@ -164,8 +158,7 @@ pub fn take_part(
     requires places { (n : ℕ) → In (members set.now) n → n < length graph.now }
     requires covers { ForSome within (λ list. Covers set.now list.now) }
     requires inside { ForSome within (λ list. (j : ℕ) → j < length list.now → slice_index list.now j < 32 * length set.now) }
-    requires same { length part.old ≡ length set.now }
-    requires queues { size set.now ≤ length queue.old }
+    requires spacious { Spacious set.now part.old queue.old }
     ensures fits { IfSome result (λ k. k ≤ room) }
     ensures taken { PartTaken graph.now set.now part.new queue.new result }
 {

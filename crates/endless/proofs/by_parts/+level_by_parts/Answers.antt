@@ -24,8 +24,8 @@ take_part-count-requires-clause-covers t c = λ list e n x. c.requires.covers li
 pub take_part-count-requires-clause-inside : goal.take_part-count-requires-clause-inside
 take_part-count-requires-clause-inside t c = λ list e j h. omega (arith, c.requires.inside list e j h)
 
-pub take_part-count-requires-clause-queues : goal.take_part-count-requires-clause-queues
-take_part-count-requires-clause-queues t c = omega (arith, c.loop-remaining.invariant.2.queues)
+pub take_part-count-requires-clause-spacious : goal.take_part-count-requires-clause-spacious
+take_part-count-requires-clause-spacious t c = record { same = omega (arith, c.split_at_mut-left.ensures.front_len); room = omega (arith, c.loop-remaining.invariant.2.queues) }
 
 pub save-beyond-requires : goal.save-beyond-requires
 save-beyond-requires t c = λ k e. let fits = rw e at c.take_part-count.ensures.fits in (omega (arith, c.take_part-count.ensures.taken.few k e, c.loop-remaining.invariant.2.queues), omega (arith, fits))
