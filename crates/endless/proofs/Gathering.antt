@@ -1,17 +1,17 @@
--- Going through the places of a set: the heaviest so far, and those that go to the queue.
-use Rattle.std.proofs.Common.{◌≡◌, ℕ, ◌+◌, ◌*◌, ◌<◌, ◌≤◌, max, false, ◌⊎◌, List, length, get_or, set, sym, ap, ◌∙◌, subst, inl, inr, arith}
+-- Going through the places of a set: those that go to the queue, and one that is given to a side.
+use Rattle.std.proofs.Common.{◌≡◌, ℕ, ◌+◌, ◌*◌, ◌<◌, ◌≤◌, false, ◌⊎◌, List, length, get_or, set, sym, ap, ◌∙◌, subst, inl, inr, arith}
 use Rattle.std.proofs.lemmas.List.{get_or-set_same, get_or-set_other, length-set}
 use Rattle.std.proofs.lemmas.Bool.{cases_eq, cases_lt, both_ways}
-use Rattle.endless.specs.Games.{Game, weight}
+use Rattle.endless.specs.Games.{Game}
 use Rattle.endless.specs.Says.{side, goes}
 use Rattle.endless.specs.Sets.{Set, In, Out, Within, having}
 use Rattle.endless.specs.Bits.{members, size, Removed, Least, NoneFrom}
 use Rattle.endless.specs.Pulling.{Passed, Unchanged, Starts}
-use Rattle.endless.specs.Levels.{HeaviestIn, GatheredIn, Stays, Given, Taken}
+use Rattle.endless.specs.Levels.{Stays, Given}
 use Rattle.endless.proofs.Tests.{T_true, true_T}
-use Rattle.endless.proofs.Sets.{in_or_out, having_in, having_within, having_is}
-use Rattle.endless.proofs.SetLaws.{members_below, size_some, some_size}
-use Rattle.endless.proofs.Working.{put_goes, put_side, put_unchanged, unchanged_goes, same_side, removed_out, removed_within, removed_which}
+use Rattle.endless.proofs.Sets.{having_in, having_within, having_is}
+use Rattle.endless.proofs.SetLaws.{members_below, some_size}
+use Rattle.endless.proofs.Working.{put_goes, put_side, put_unchanged, removed_out, removed_within, removed_which}
 
 -- a member that a scan from `from` on would have found is below it
 pub before : (l : List ℕ) (from n : ℕ) → (from ≤ n → members l n ≡ false) → In (members l) n → n < from
@@ -20,33 +20,6 @@ before l from n none x = go (cases_lt n from)
     go : (n < from) ⊎ (from ≤ n) → n < from
     go (inl e) = e
     go (inr e) = absurd (both_ways (members l n) (none e) (T_true _ x))
-
--- the heaviest of the members below `from`, if there is one
-pub record Weighing (g : Game) (l : List ℕ) (from h : ℕ) : Type 0 where
-  pub most : (n : ℕ) → In (members l) n → n < from → weight g n ≤ h
-  pub some_place : ((h ≡ 0) × ((n : ℕ) → n < from → Out (members l) n)) ⊎ ((n : ℕ) × In (members l) n × (weight g n ≡ h))
-
-pub weighing_more : {g : Game} {l : List ℕ} {from h m w r : ℕ} → Weighing g l from h → Least (members l) from m → w ≡ weight g m → r ≡ max h w → Weighing g l (m + 1) r
-weighing_more {g} {l} {from} {h} {m} {w} {r} k least weighs is = record {
-  most = λ n x lt. most n x lt (cases_eq n m);
-  some_place = inr (some_place k.some_place (cases_lt h w));
-}
-  where
-    most : (n : ℕ) → In (members l) n → n < m + 1 → (n ≡ m) ⊎ (n ≡ m → ⊥) → weight g n ≤ r
-    most n x lt (inl e) = omega (arith, weighs, ap (weight g) e)
-    most n x lt (inr d) = omega (arith, k.most n x (before l from n (λ e. least.none n e (omega arith)) x))
-
-    some_place : ((h ≡ 0) × ((n : ℕ) → n < from → Out (members l) n)) ⊎ ((n : ℕ) × In (members l) n × (weight g n ≡ h)) → (h < w) ⊎ (w ≤ h) → (n : ℕ) × In (members l) n × (weight g n ≡ r)
-    some_place (inl t) c = (m, true_T _ least.is, omega (arith, t.0, weighs))
-    some_place (inr t) (inl c) = (m, true_T _ least.is, omega (arith, weighs))
-    some_place (inr t) (inr c) = (t.0, t.1, omega (arith, t.2))
-
-pub weighing_all : {g : Game} {l : List ℕ} {from h : ℕ} → Weighing g l from h → NoneFrom (members l) from → 0 < size l → HeaviestIn g (members l) h
-weighing_all {g} {l} {from} {h} k none some = go k.some_place
-  where
-    go : ((h ≡ 0) × ((n : ℕ) → n < from → Out (members l) n)) ⊎ ((n : ℕ) × In (members l) n × (weight g n ≡ h)) → HeaviestIn g (members l) h
-    go (inl t) = let m = size_some l some in absurd (t.1 m.0 (before l from m.0 (none m.0) (true_T _ m.1)) (true_T _ m.1))
-    go (inr t) = record { most = λ n x. k.most n x (before l from n (none n) x); some_place = t }
 
 -- of the members of `own` below `from`, those at which f is k have gone from what is left to the queue
 pub record Gathering (f : ℕ → ℕ) (k : ℕ) (own left queue : List ℕ) (from count : ℕ) : Type 0 where
@@ -149,65 +122,3 @@ module _ {g : Game} {w m : ℕ} {U : Set} {out out' : List ℕ} (room : 2 * m + 
 
   pub given_stays : Stays g U m (goes out' m)
   given_stays = subst (Stays g U m) (sym (ap (λ (o : List ℕ). goes o m) t.out_is ∙ put_goes out m w t.move room)) t.stays
-
--- those of a weight, which are given to a side with a move that stays
-pub record Giving (g : Game) (w h : ℕ) (own part out left queue out' : List ℕ) (from count : ℕ) : Type 0 where
-  pub gathers : Gathering (weight g) h part left queue from count
-  pub frame : (n : ℕ) → Out (members part) n → Unchanged out out' n
-  pub labelled : (n : ℕ) → n < from → In (having (members part) (weight g) h) n → side out' n ≡ w
-  pub stays : (n : ℕ) → n < from → In (having (members part) (weight g) h) n → Stays g (members own) n (goes out' n)
-
-module _ {g : Game} {w h : ℕ} {own part out left queue out' : List ℕ} {from count : ℕ} (so_far : Giving g w h own part out left queue out' from count) where
-  module _ {m x : ℕ} (least : Least (members left) from m) (weighs : x ≡ weight g m) where
-    earlier : (n : ℕ) → n < m → In (having (members part) (weight g) h) n → n < from
-    earlier n l y = go (in_or_out (members left) n)
-      where
-        go : In (members left) n ⊎ Out (members left) n → n < from
-        go (inl z) = before left from n (λ e. least.none n e l) z
-        go (inr o) = (so_far.gathers.covers n (having_within (members part) (weight g) h n y) o).0
-
-    pub giving_skip : (x ≡ h → ⊥) → Giving g w h own part out left queue out' (m + 1) count
-    giving_skip d = record {
-      gathers = gathering_skip so_far.gathers least (λ e. d (weighs ∙ e));
-      frame = so_far.frame;
-      labelled = λ n l y. so_far.labelled n (earlier n (other n l y) y) y;
-      stays = λ n l y. so_far.stays n (earlier n (other n l y) y) y;
-    }
-      where
-        other : (n : ℕ) → n < m + 1 → In (having (members part) (weight g) h) n → n < m
-        other n l y = let d' : n ≡ m → ⊥ = λ e. d (weighs ∙ sym (ap (weight g) e) ∙ having_is (members part) (weight g) h n y) in omega arith
-
-    pub giving_take : {left' queue' out'' : List ℕ} → x ≡ h → count < length queue → 2 * m + 1 < length out' → In (members part) m → Taken g w m (members own) count left queue out' left' queue' out'' → Giving g w h own part out left' queue' out'' (m + 1) (count + 1)
-    giving_take {left'} {queue'} {out''} is space room mine t = record {
-      gathers = gathering_take so_far.gathers least (sym weighs ∙ is) space t.left_is t.queue_is;
-      frame = λ n o.
-          let a = so_far.frame n o in
-          let b = same n (λ e. o (subst (λ (j : ℕ). In (members part) j) (sym e) mine)) in
-          (b.0 ∙ a.0, b.1 ∙ a.1);
-      labelled = λ n l y. labelled n l y (cases_eq n m);
-      stays = λ n l y. stays n l y (cases_eq n m);
-    }
-      where
-        same : (n : ℕ) → (n ≡ m → ⊥) → Unchanged out' out'' n
-        same = given_same room t.given
-
-        labelled : (n : ℕ) → n < m + 1 → In (having (members part) (weight g) h) n → (n ≡ m) ⊎ (n ≡ m → ⊥) → side out'' n ≡ w
-        labelled n l y (inl e) = ap (side out'') e ∙ given_side room t.given
-        labelled n l y (inr d) = same_side out' out'' n (given_length room t.given) (same n d) ∙ so_far.labelled n (earlier n (omega arith) y) y
-
-        stays : (n : ℕ) → n < m + 1 → In (having (members part) (weight g) h) n → (n ≡ m) ⊎ (n ≡ m → ⊥) → Stays g (members own) n (goes out'' n)
-        stays n l y (inl e) = subst (λ (j : ℕ). Stays g (members own) j (goes out'' j)) (sym e) (given_stays room t.given)
-        stays n l y (inr d) = subst (Stays g (members own) n) (sym (unchanged_goes out' out'' n (same n d))) (so_far.stays n (earlier n (omega arith) y) y)
-
-  pub giving_all : NoneFrom (members left) from → GatheredIn g (members part) (members own) w h left queue out' count
-  giving_all none = record {
-    starts = starts;
-    labelled = λ n y. so_far.labelled n (below n y) y;
-    stays = λ n y. so_far.stays n (below n y) y;
-  }
-    where
-      starts : Starts (members part) (having (members part) (weight g) h) left queue count
-      starts = gathering_all so_far.gathers none
-
-      below : (n : ℕ) → In (having (members part) (weight g) h) n → n < from
-      below n y = (so_far.gathers.covers n (having_within (members part) (weight g) h n y) (starts.apart n y)).0

@@ -1,6 +1,6 @@
 -- The recursion over weights: from what its steps do to what they mean, and the room for the level below.
 use Rattle.std.proofs.Common.{◌≡◌, ℕ, ◌+◌, ◌-◌, ◌*◌, ◌%◌, ◌<◌, ◌≤◌, true, eqb, ◌⊎◌, List, length, sym, refl, ap, ◌∙◌, subst, inl, inr, mul-le-mul_right, add-mul, arith}
-use Rattle.std.proofs.lemmas.Bool.{cases_eq, both_ways, lt-ltb, eq-eqb}
+use Rattle.std.proofs.lemmas.Bool.{both_ways, lt-ltb, eq-eqb}
 use Rattle.endless.specs.Games.{Game, weight, May}
 use Rattle.endless.specs.Says.{side, goes}
 use Rattle.endless.specs.Sets.{Set, In, Out, Within, minus, having}
@@ -9,7 +9,7 @@ use Rattle.endless.specs.Bits.{members, count, size}
 use Rattle.endless.specs.Weights.{weighing, occurs}
 use Rattle.endless.specs.View.{Playable}
 use Rattle.endless.specs.Pulling.{Unchanged, Moved, Starts, Attracts}
-use Rattle.endless.specs.Levels.{HeaviestIn, GatheredIn, Brought, Peeled, Peels, Reduces, levels, Room}
+use Rattle.endless.specs.Levels.{HeaviestIn, GatheredIn, Brought, Peeled, Peels, Reduces, Lent, levels, Room}
 use Rattle.endless.proofs.Tests.{T_true, true_T}
 use Rattle.endless.proofs.Sets.{in_or_out, minus_out, having_in, having_within}
 use Rattle.endless.proofs.CountLaws.{count_more_yes, count_add, some_count}
@@ -163,6 +163,15 @@ room_now {g = g} {bound = bound} {own = own} {own' = own'} r k long-w long-r lon
   sets = omega (arith, r.sets, ap (λ (k : ℕ). levels g bound * k) long-w);
 }
 
+-- the room of a level is lent to its steps
+pub room_lent : {g : Game} {bound : ℕ} {own rest out queue escapes out' queue' escapes' : List ℕ} → Room g bound own rest out queue escapes → length out' ≡ length out → length queue' ≡ length queue → length escapes' ≡ length escapes → Lent g own out' queue' escapes'
+room_lent r long-o long-q long-e = record {
+  inside = r.subgame.places;
+  sized = record { sets = r.sized.sets; answers = omega (arith, r.sized.answers); cursors = omega (arith, r.sized.cursors) };
+  queues = omega (arith, r.queues);
+  small = r.small;
+}
+
 -- the weights below are lighter
 pub room_light : {g : Game} {bound h : ℕ} {own rest out queue escapes : List ℕ} (part : List ℕ) → Room g bound own rest out queue escapes → Closed g (members own) (members part) → HeaviestIn g (members part) h → h < bound
 room_light part r closed heavy = let t = heavy.some_place in omega (arith, r.light t.0 (closed.within t.0 t.1), t.2)
@@ -174,11 +183,3 @@ room_set {g = g} {bound = bound} {own = own} r some =
     let mine = true_T _ t.1 in
     let fall = levels_fall g t.0 (weight g t.0) bound (r.subgame.places t.0 mine) refl (r.light t.0 mine) in
     omega (arith, mul-le-mul_right (length own) fall, add-mul (levels g (weight g t.0)) 1 (length own), r.sets)
-
--- how many places a part has
-pub part_counted : {n many r k : ℕ} → (n ≡ 0 → many ≡ k) × (0 < n → n ≡ k) → (n ≡ 0 → r ≡ many) × (0 < n → r ≡ n) → r ≡ k
-part_counted {n} {many} {r} {k} t u = go (cases_eq n 0)
-  where
-    go : (n ≡ 0) ⊎ (n ≡ 0 → ⊥) → r ≡ k
-    go (inl e) = u.0 e ∙ t.0 e
-    go (inr d) = let some : 0 < n = omega arith in u.1 some ∙ t.1 some

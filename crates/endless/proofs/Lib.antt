@@ -44,6 +44,7 @@ mod Levels
 mod Parts
 mod Gathering
 mod Picking
+mod MemberLists
 mod Layouts
 pub mod Solving
 mod Reaching

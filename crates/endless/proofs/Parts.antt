@@ -1,5 +1,5 @@
 -- Going from places to all that can be come to within a set.
-use Rattle.std.proofs.Common.{◌≡◌, ℕ, ◌+◌, ◌<◌, ◌≤◌, Bool, true, false, ◌||◌, T, ◌⊎◌, List, length, get_or, set, sym, refl, ap, ◌∙◌, subst, inl, inr, arith}
+use Rattle.std.proofs.Common.{◌≡◌, ℕ, ◌+◌, ◌<◌, ◌≤◌, Bool, true, false, ◌||◌, T, ◌⊎◌, List, Option, Some, None, length, option_map, get_or, set, sym, refl, ap, ◌∙◌, subst, inl, inr, arith}
 use Rattle.std.proofs.lemmas.List.{get_or-set_same, get_or-set_other}
 use Rattle.std.proofs.lemmas.Bool.{cases_eq, cases_lt, both_ways, eq-eqb, ne_eqb}
 use Rattle.endless.specs.Games.{Game, Among, May}
@@ -8,10 +8,10 @@ use Rattle.endless.specs.Subgames.{Closed}
 use Rattle.endless.specs.Bits.{members, size, Inserted}
 use Rattle.endless.specs.Graph.{moves}
 use Rattle.endless.specs.Pulling.{Passed}
-use Rattle.endless.specs.Parts.{Listing, Spread, PartTaken, Covers}
+use Rattle.endless.specs.Parts.{Listing, Spread, Told, PartTaken, Covers}
 use Rattle.endless.proofs.Tests.{T_true, true_T}
 use Rattle.endless.proofs.Among.{among_at}
-use Rattle.endless.proofs.SetLaws.{size_sub, size_sub_lt, size_none}
+use Rattle.endless.proofs.SetLaws.{size_sub, size_sub_lt, size_none, size_some}
 
 -- a set with a place more
 module _ {l : List ℕ} {k : ℕ} {r : List ℕ} (ins : Inserted l k r) where
@@ -120,31 +120,51 @@ going_all {g = g} end k = record {
   stays = λ n m x may y. let t = k.lists.listed n x in k.passed t.0 (omega (arith, t.1)) m (subst (λ (i : ℕ). May g i m) (sym t.2) may) y;
 }
 
--- all of a set, by a list that has all of it
-pub listed_taken : {g : Game} {own part queue : List ℕ} {count : ℕ} → length part ≡ length own → Listing own part queue count → Within (members own) (members part) → PartTaken g own part queue count
-listed_taken {own = own} {part = part} same k all = record {
-  few = omega (arith, k.counts, less);
-  sizes = (λ e. omega (arith, less, more), λ h. k.counts);
-  some_place = λ h. omega (arith, more);
-  closed = record { within = k.inside; stays = λ n m x may y. all m y };
-  listed = λ list long at. record {
+-- a closed part is taken, whose places stand in the queue
+pub queued_taken : {g : Game} {own part queue : List ℕ} {count : ℕ} → length part ≡ length own → Listing own part queue count → (0 < size own → 0 < size part) → Closed g (members own) (members part) → PartTaken g own part queue (Some count)
+queued_taken {own = own} {part = part} {queue = queue} {count = count} same k some closed = record {
+  few = λ x e. let c : count ≡ x = cc in omega (arith, k.counts, size_sub part own same (λ j y. T_true _ (k.inside j (true_T _ y))));
+  sizes = k.counts;
+  some_place = some;
+  closed = closed;
+  listed = λ list s. record {
     within = k.inside;
-    whole = λ e. all;
-    told = λ h n. (
-      λ x. let t = k.listed n x in (t.0, omega (arith, t.1), at t.0 t.1 ∙ t.2),
-      λ p. subst (λ (m : ℕ). In (members part) m) (sym (at p.0 (omega (arith, p.1))) ∙ p.2) (k.queued p.0 (omega (arith, p.1))),
-    );
+    some_place = λ h. let t = size_some part (some h) in (t.0, true_T _ t.1);
+    whole = λ e. absurd (no_list list e s.long);
+    told = λ l e. told l (let t : length l ≡ count = cc (s.long, ap (option_map length) e) in t) (s.copied l e);
   };
 }
   where
-    less : size part ≤ size own
-    less = size_sub part own same (λ j x. T_true _ (k.inside j (true_T _ x)))
+    no_list : (list : Option (List ℕ)) → list ≡ None → option_map length list ≡ Some count → ⊥
+    no_list list e long = let t : None ≡ Some count = sym (ap (option_map length) e) ∙ long in cc
 
-    more : size own ≤ size part
-    more = size_sub own part (sym same) (λ j x. T_true _ (all j (true_T _ x)))
+    told : (l : List ℕ) → length l ≡ count → ((j : ℕ) → j < length l → get_or l j 0 ≡ get_or queue j 0) → Told l (members part)
+    told l long at n = (
+      λ x. let t = k.listed n x in (t.0, omega (arith, t.1), at t.0 (omega (arith, t.1)) ∙ t.2),
+      λ p. subst (λ (m : ℕ). In (members part) m) (sym (at p.0 p.1) ∙ p.2) (k.queued p.0 (omega (arith, p.1))),
+    )
+
+-- all of a set is taken, by a list that has all of it
+pub listed_taken : {g : Game} {own part queue : List ℕ} {count : ℕ} → length part ≡ length own → Listing own part queue count → Within (members own) (members part) → PartTaken g own part queue (Some count)
+listed_taken {own = own} {part = part} same k all = queued_taken same k (λ h. omega (arith, size_sub own part (sym same) (λ j x. T_true _ (all j (true_T _ x))))) (record { within = k.inside; stays = λ n m x may y. all m y })
+
+-- all of a set is taken
+pub whole_taken : {g : Game} {own part queue : List ℕ} → part ≡ own → PartTaken g own part queue None
+whole_taken {own = own} same = rw same (record {
+  few = λ x e. cc;
+  sizes = refl;
+  some_place = λ h. h;
+  closed = record { within = λ n x. x; stays = λ n m x may y. y };
+  listed = λ list s. record {
+    within = λ n x. x;
+    some_place = λ h. let t = size_some own h in (t.0, true_T _ t.1);
+    whole = λ e n x. x;
+    told = λ l e. let t : Some (length l) ≡ None = sym (ap (option_map length) e) ∙ s.long in cc;
+  };
+})
 
 -- all places of the set are among those gone over
-pub over_all : (own part items : List ℕ) → ((k : ℕ) → k < length items → In (members own) (get_or items k 0) → In (members part) (get_or items k 0)) → 0 < length items → Covers own items → Within (members own) (members part)
-over_all own part items holds some covers n x =
-    let t = covers some n x in
+pub over_all : (own part items : List ℕ) → ((k : ℕ) → k < length items → In (members own) (get_or items k 0) → In (members part) (get_or items k 0)) → Covers own items → Within (members own) (members part)
+over_all own part items holds covers n x =
+    let t = covers n x in
     subst (λ (m : ℕ). In (members part) m) t.2 (holds t.0 t.1 (subst (λ (m : ℕ). In (members own) m) (sym t.2) x))

@@ -1,51 +1,51 @@
--- Going through a list of places: the heaviest so far, and those that go to the queue.
-use Rattle.std.proofs.Common.{◌≡◌, ℕ, ◌+◌, ◌*◌, ◌<◌, ◌≤◌, max, ◌⊎◌, List, length, get_or, set, sym, refl, ap, ◌∙◌, subst, inl, inr, arith}
+-- Going through a list of places, or through what an iterator gives: those that go to the queue.
+use Rattle.std.proofs.Common.{◌≡◌, ℕ, ◌+◌, ◌*◌, ◌<◌, ◌≤◌, ◌⊎◌, List, Option, Some, None, length, get_or, set, sym, refl, ap, ◌∙◌, subst, inl, inr, arith}
 use Rattle.std.proofs.lemmas.List.{get_or-set_same, get_or-set_other}
 use Rattle.std.proofs.lemmas.Bool.{cases_eq, cases_lt}
+use Rattle.std.proofs.lemmas.Iterator.{YieldsList}
+use Rattle.std.proofs.lemmas.Iterator.Consumers.{YieldsList-turn, YieldsList-end}
+use Rattle.std.proofs.lemmas.Grind.{get_or_default_zero}
+use Rattle.std.specs.Iterator.{Yields}
 use Rattle.endless.specs.Games.{Game, weight}
 use Rattle.endless.specs.Says.{side, goes}
 use Rattle.endless.specs.Sets.{Set, In, Out, Within, having}
 use Rattle.endless.specs.Bits.{members, size, Removed}
 use Rattle.endless.specs.Pulling.{Passed, Unchanged, Starts}
 use Rattle.endless.specs.Levels.{HeaviestIn, HeaviestOf, GatheredIn, Stays, Taken, TakenIf}
-use Rattle.endless.specs.Parts.{Told, PickedIf}
-use Rattle.endless.proofs.Tests.{T_true}
+use Rattle.endless.specs.Parts.{Told, Covers, Gives, PickedIf}
+use Rattle.endless.proofs.Tests.{T_true, true_T}
+use Rattle.endless.proofs.SetLaws.{size_some}
 use Rattle.endless.proofs.Sets.{having_in, having_within, having_is}
 use Rattle.endless.proofs.Gathering.{given_same, given_length, given_side, given_stays}
 use Rattle.endless.proofs.Working.{unchanged_goes, same_side, removed_out, removed_within, removed_which}
 
 -- what stands in a told list is in the part
 pub told_in : (list : List ℕ) (R : Set) → Told list R → (j : ℕ) → j < length list → In R (get_or list j 0)
-told_in list R told j h = (told (omega arith) (get_or list j 0)).1 (j, h, refl)
+told_in list R told j h = (told (get_or list j 0)).1 (j, h, refl)
+
+-- the list of a part with places is not empty
+pub told_some : (list part : List ℕ) → Told list (members part) → 0 < size part → 0 < length list
+told_some list part told h = let t = size_some part h in omega (arith, ((told t.0).0 (true_T _ t.1)).1)
+
+-- ---- going through places that an iterator gives, which are those of a list
+
+module _ {S : Type 0} (steps : S → Option ℕ → S → Type 0) {s s' : S} (list : List ℕ) (same : s' ≡ s) (gives : Gives steps s list) (xs : List ℕ) (t : S) (so_far : Yields steps s' xs t) where
+  yields_list : YieldsList steps (λ n. n) s' list
+  yields_list = record { runs = rw same gives }
+
+  -- the place of this turn
+  pub turn_at : (r : Option ℕ) (u : S) (x : ℕ) → r ≡ Some x → steps t r u → (length xs < length list) × (get_or list (length xs) 0 ≡ x)
+  turn_at r u x is step = let here = YieldsList-turn yields_list xs t so_far r u x is step in (here.0, sym (get_or_default_zero list (length xs) x here.0) ∙ sym here.1)
+
+  -- after the last
+  pub end_at : (r : Option ℕ) (u : S) → r ≡ None → steps t r u → length xs ≡ length list
+  end_at r u is step = (YieldsList-end yields_list xs t so_far r u is step).1
 
 -- ---- the heaviest weight
 
-pub record Weighed (g : Game) (list : List ℕ) (i h : ℕ) : Type 0 where
-  pub most : (j : ℕ) → j < i → weight g (get_or list j 0) ≤ h
-  pub some_place : ((h ≡ 0) × (i ≡ 0)) ⊎ ((j : ℕ) × (j < i) × (weight g (get_or list j 0) ≡ h))
-
-pub weighed_more : {g : Game} {list : List ℕ} {i h w r : ℕ} → Weighed g list i h → w ≡ weight g (get_or list i 0) → r ≡ max h w → Weighed g list (i + 1) r
-weighed_more {g} {list} {i} {h} {w} {r} k weighs is = record { most = λ j l. most j l (cases_lt j i); some_place = inr (some_place k.some_place (cases_lt h w)) }
-  where
-    most : (j : ℕ) → j < i + 1 → (j < i) ⊎ (i ≤ j) → weight g (get_or list j 0) ≤ r
-    most j l (inl e) = omega (arith, k.most j e)
-    most j l (inr e) = omega (arith, weighs, ap (λ (x : ℕ). weight g (get_or list x 0)) (let t : j ≡ i = omega arith in t))
-
-    some_place : ((h ≡ 0) × (i ≡ 0)) ⊎ ((j : ℕ) × (j < i) × (weight g (get_or list j 0) ≡ h)) → (h < w) ⊎ (w ≤ h) → (j : ℕ) × (j < i + 1) × (weight g (get_or list j 0) ≡ r)
-    some_place (inl t) c = (i, omega arith, omega (arith, t.0, weighs))
-    some_place (inr t) (inl c) = (i, omega arith, omega (arith, weighs))
-    some_place (inr t) (inr c) = (t.0, omega (arith, t.1), omega (arith, t.2))
-
-pub weighed_all : {g : Game} {list : List ℕ} {i h : ℕ} → i ≡ length list → Weighed g list i h → 0 < length list → HeaviestOf g list h
-weighed_all {g} {list} {i} {h} end k some = go k.some_place
-  where
-    go : ((h ≡ 0) × (i ≡ 0)) ⊎ ((j : ℕ) × (j < i) × (weight g (get_or list j 0) ≡ h)) → HeaviestOf g list h
-    go (inl t) = absurd (omega (arith, t.1))
-    go (inr t) = record { most = λ j l. k.most j (omega arith); some_place = (t.0, omega (arith, t.1), t.2) }
-
-pub heaviest_told : (g : Game) (list : List ℕ) (R : Set) (h : ℕ) → 0 < length list → Told list R → HeaviestOf g list h → HeaviestIn g R h
-heaviest_told g list R h some told k = record {
-  most = λ n x. let t = (told some n).0 x in subst (λ (j : ℕ). weight g j ≤ h) t.2 (k.most t.0 t.1);
+pub heaviest_told : (g : Game) (list : List ℕ) (R : Set) (h : ℕ) → Told list R → HeaviestOf g list h → HeaviestIn g R h
+heaviest_told g list R h told k = record {
+  most = λ n x. let t = (told n).0 x in subst (λ (j : ℕ). weight g j ≤ h) t.2 (k.most t.0 t.1);
   some_place = let t = k.some_place in (get_or list t.0 0, told_in list R told t.0 t.1, t.2);
 }
 
@@ -139,9 +139,9 @@ module _ {f : ℕ → ℕ} {k : ℕ} {own list : List ℕ} {i : ℕ} {left queue
   picking_more {left'} {queue'} {r} room (inl t) = rw (t.0, t.1, t.2) (picking_skip t.3)
   picking_more {left'} {queue'} {r} room (inr t) = rw t.0 (picking_take (omega (arith, so_far.counts, t.3.shrinks (T_true _ t.1))) t.1 t.2 left' queue' t.3 t.4)
 
-  -- after the last place of a list that tells a part
-  pub picking_all : (R : Set) → i ≡ length list → 0 < length list → Within R (members own) → Told list R → Starts (members own) (having R f k) left queue count
-  picking_all R end some inside told = record {
+  -- after the last place of a list that has all of a part, and nothing else of the set
+  pub picking_all : (R : Set) → i ≡ length list → Within R (members own) → ((n : ℕ) → In R n → Passed list (length list) n) → ((n : ℕ) → In (members own) n → Passed list (length list) n → In R n) → Starts (members own) (having R f k) left queue count
+  picking_all R end inside has only = record {
     rest = so_far.rest;
     inside = λ n x. inside n (having_within R f k n x);
     apart = apart;
@@ -152,13 +152,13 @@ module _ {f : ℕ → ℕ} {k : ℕ} {own list : List ℕ} {i : ℕ} {left queue
     where
       apart : (n : ℕ) → In (having R f k) n → Out (members left) n
       apart n x =
-          let t = (told some n).0 (having_within R f k n x) in
+          let t = has n (having_within R f k n x) in
           subst (λ (m : ℕ). Out (members left) m) t.2 (so_far.apart t.0 (omega (arith, t.1)) (ap f t.2 ∙ having_is R f k n x))
 
       covers : (n : ℕ) → In (members own) n → Out (members left) n → In (having R f k) n
       covers n x o =
           let t = so_far.covers n x o in
-          having_in R f k n ((told some n).1 (t.0.0, omega (arith, t.0.1), t.0.2)) t.1
+          having_in R f k n (only n x (t.0.0, omega (arith, t.0.1), t.0.2)) t.1
 
 -- ---- those of a weight, which are given to a side with a move that stays
 
@@ -209,15 +209,15 @@ module _ {g : Game} {w h : ℕ} {own part out list : List ℕ} {i : ℕ} {left q
       })
   taking_more space room (inr t) = rw t.0 (taking_take room t.1 t.3 (picking_more so_far.picks space (inr (refl, t.1, t.2, t.3.left_is, t.3.queue_is))))
 
-  pub taking_all : i ≡ length list → 0 < length list → Told list (members part) → GatheredIn g (members part) (members own) w h left queue out' count
-  taking_all end some told = record {
+  pub taking_all : i ≡ length list → Covers part list → GatheredIn g (members part) (members own) w h left queue out' count
+  taking_all end covers = record {
     starts = starts;
     labelled = λ n y. so_far.labelled n (having_within (members part) (weight g) h n y) (starts.apart n y);
     stays = λ n y. so_far.stays n (having_within (members part) (weight g) h n y) (starts.apart n y);
   }
     where
       starts : Starts (members part) (having (members part) (weight g) h) left queue count
-      starts = picking_all so_far.picks (members part) end some (λ n x. x) told
+      starts = picking_all so_far.picks (members part) end (λ n x. x) covers (λ n x p. x)
 
 -- ---- the same targets, told otherwise
 pub starts_as : (U D E : Set) (l q : List ℕ) (k : ℕ) → Within D E → Within E D → Starts U D l q k → Starts U E l q k

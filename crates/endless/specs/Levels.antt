@@ -29,6 +29,13 @@ pub record GatheredIn (g : Game) (U V : Set) (w h : ℕ) (left queue out : List 
   pub labelled : (n : ℕ) → In (having U (weight g) h) n → side out n ≡ w
   pub stays : (n : ℕ) → In (having U (weight g) h) n → Stays g V n (goes out n)
 
+-- two sets of one length, the one left of the other, and an answer, with room for a game's places
+pub record Fitting (g : Game) (own left out : List ℕ) : Type 0 where
+  pub sets : length g ≤ 32 * length own
+  pub same : length left ≡ length own
+  pub answers : 2 * length g ≤ length out
+  pub small : 32 * length own < 2 ^ 32
+
 -- a place is given to a side, with a move that stays in a set
 pub record Given (g : Game) (w n : ℕ) (U : Set) (out out' : List ℕ) : Type 0 where
   pub move : ℕ
@@ -71,6 +78,13 @@ Peels g U R p q L out out' = (((n : ℕ) → In R n → side out n ≢ q) × Pee
 pub record Reduces (g : Game) (U L : Set) (out : List ℕ) : Type 0 where
   pub rest : Subgame g L
   pub solves : (o : List ℕ) → length o ≡ length out → ((n : ℕ) → Out L n → Unchanged out o n) → Solves g L (side o) (goes o) → Solves g U (side o) (goes o)
+
+-- a set of places of a game, and room for them in an answer, the cursors and the queue
+pub record Lent (g : Game) (own out queue escapes : List ℕ) : Type 0 where
+  pub inside : (n : ℕ) → In (members own) n → n < length g
+  pub sized : Sized g own out escapes
+  pub queues : size own ≤ length queue
+  pub small : 32 * length own < 2 ^ 32
 
 -- how many different weights below a bound occur in a game
 abbrev pub levels : Game → ℕ → ℕ

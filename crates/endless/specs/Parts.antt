@@ -1,5 +1,7 @@
 -- A closed part of a subgame: all that can be come to from a place.
-use Rattle.std.specs.Prelude.{◌≡◌, ℕ, ◌+◌, ◌<◌, ◌≤◌, ◌⊎◌, ◌↔◌, List, length, Some, None, Option, ◌≢◌, slice_index, slice_set}
+use Rattle.std.specs.Prelude.{◌≡◌, ℕ, ◌+◌, ◌<◌, ◌≤◌, ◌⊎◌, ◌↔◌, List, length, Some, None, Option, option_map, unwrap_or, ◌≢◌, slice_index, slice_set}
+use Rattle.std.specs.Option.{ForSome}
+use Rattle.std.specs.Iterator.{AlwaysYields}
 use Rattle.endless.specs.Games.{Game}
 use Rattle.endless.specs.Says.{side}
 use Rattle.endless.specs.Sets.{Set, In, Within}
@@ -8,6 +10,11 @@ use Rattle.endless.specs.Sides.{number}
 use Rattle.endless.specs.Bits.{members, size, Removed}
 use Rattle.endless.specs.Pulling.{Passed}
 use Rattle.endless.specs.declared.side.Side.{Side}
+
+-- a part has as many words as its set, and the queue has room for all places of the set
+pub record Spacious (own part queue : List ℕ) : Type 0 where
+  pub same : length part ≡ length own
+  pub room : size own ≤ length queue
 
 -- the first `count` places of the queue are the places of a part of a set, each once
 pub record Listing (own part queue : List ℕ) (count : ℕ) : Type 0 where
@@ -23,27 +30,37 @@ pub record Spread (own part queue : List ℕ) (count : ℕ) (part' queue' : List
   pub more : Within (members part) (members part')
   pub front : (j : ℕ) → j < count → slice_index queue' j ≡ slice_index queue j
 
--- a list that is not empty has the places of R, and no others
+-- a list has the places of R, and no others
 abbrev pub Told : List ℕ → Set → Type 0
-Told list R = 0 < length list → (n : ℕ) → In R n ↔ Passed list (length list) n
+Told list R = (n : ℕ) → In R n ↔ Passed list (length list) n
 
--- a list that is not empty has all places of a set
+-- a list has all places of a set
 abbrev pub Covers : List ℕ → List ℕ → Type 0
-Covers own list = 0 < length list → (n : ℕ) → In (members own) n → Passed list (length list) n
+Covers own list = (n : ℕ) → In (members own) n → Passed list (length list) n
 
--- R is a part of what words hold, told by a list of its places; an empty list tells all of it
-pub record Part (own list : List ℕ) (R : Set) : Type 0 where
+-- an iterator of places gives those of a list, one after another, and no others
+abbrev pub Gives : {S : Type 0} → (S → Option ℕ → S → Type 0) → S → List ℕ → Type 0
+Gives next_gives s list = AlwaysYields next_gives (λ n. n) s list
+
+-- R is a part of what words hold, with a place of it, if there is any: told by a list of its places, or else all of it
+pub record Part (own : List ℕ) (list : Option (List ℕ)) (R : Set) : Type 0 where
   pub within : Within R (members own)
-  pub whole : length list ≡ 0 → Within (members own) R
-  pub told : Told list R
+  pub some_place : 0 < size own → (n : ℕ) × In R n
+  pub whole : list ≡ None → Within (members own) R
+  pub told : ForSome list (λ l. Told l R)
 
--- a closed part is taken: some places, if there are any, told by each copy of the first `count` words of the queue
-pub record PartTaken (g : Game) (own part queue : List ℕ) (count : ℕ) : Type 0 where
-  pub few : count ≤ size own
-  pub sizes : (count ≡ 0 → size part ≡ size own) × (0 < count → count ≡ size part)
+-- a list, if there is a number, of so many of the first words of the queue
+pub record Saved (queue : List ℕ) (count : Option ℕ) (list : Option (List ℕ)) : Type 0 where
+  pub long : option_map length list ≡ count
+  pub copied : ForSome list (λ l. (j : ℕ) → j < length l → slice_index l j ≡ slice_index queue j)
+
+-- a closed part is taken, with a place, if there is any: told by each copy of the first `count` words of the queue, or all of the set, where there is no such number
+pub record PartTaken (g : Game) (own part queue : List ℕ) (count : Option ℕ) : Type 0 where
+  pub few : ForSome count (λ k. k ≤ size own)
+  pub sizes : unwrap_or count (size own) ≡ size part
   pub some_place : 0 < size own → 0 < size part
   pub closed : Closed g (members own) (members part)
-  pub listed : (list : List ℕ) → length list ≡ count → ((j : ℕ) → j < count → slice_index list j ≡ slice_index queue j) → Part own list (members part)
+  pub listed : (list : Option (List ℕ)) → Saved queue count list → Part own list (members part)
 
 -- the places asked for: those that an answer gives to a side, or all
 abbrev pub wanted : Option Side → List ℕ → ℕ → ℕ

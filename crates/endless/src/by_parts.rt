@@ -1,5 +1,6 @@
 //! The recursion over weights by closed parts: who wins each place of a subgame, and with which moves.
-ghost use Rattle.std.specs.Prelude.{◌≡◌, ℕ, ◌+◌, ◌*◌, ◌%◌, ◌^◌, ◌<◌, ◌≤◌, length, slice_index};
+ghost use Rattle.std.specs.Prelude.{◌≡◌, ℕ, ◌+◌, ◌*◌, ◌%◌, ◌^◌, ◌<◌, ◌≤◌, length, option_copied, option_map, unwrap_or, slice_index};
+ghost use Rattle.std.specs.Option.{ForSome};
 ghost use Rattle.endless.specs.Games.{other};
 ghost use Rattle.endless.specs.Says.{side, goes};
 ghost use Rattle.endless.specs.Sets.{Set, In, Out, Within};
@@ -7,8 +8,8 @@ ghost use Rattle.endless.specs.Subgames.{Subgame, Closed, Solves};
 ghost use Rattle.endless.specs.Sides.{number};
 ghost use Rattle.endless.specs.Bits.{members, size};
 ghost use Rattle.endless.specs.Pulling.{Unchanged, Sized};
-ghost use Rattle.endless.specs.Levels.{HeaviestIn, Brought, Peeled, Peels, Room};
-ghost use Rattle.endless.specs.Parts.{Covers, Part};
+ghost use Rattle.endless.specs.Levels.{HeaviestIn, Lent, Brought, Peeled, Peels, Room};
+ghost use Rattle.endless.specs.Parts.{Covers, Part, Saved};
 ghost use Rattle.endless.specs.View.{Playable};
 
 use crate::attractor::attract_counted;
@@ -19,19 +20,31 @@ use crate::graph::Graph;
 use crate::order::{Effort, Order, find_start};
 use crate::side::Side;
 
-/// Copies the first places of the queue.
-fn save(queue: &[u32], list: &mut [u32])
-    requires { length list.old ≤ length queue.now }
-    ensures { (j : ℕ) → j < length list.old → slice_index list.new j ≡ slice_index queue.now j }
+/// Copies the places of a part from the queue to the first of the free words,
+/// if they stand there: the list of them, and the words behind it.
+fn save<'a>(
+    queue: &[u32],
+    count: Option<usize>,
+    free: &'a mut [u32],
+) -> (Option<&'a [u32]>, &'a mut [u32])
+    requires { ForSome count (λ k. (k ≤ length queue.now) × (k ≤ length free.old)) }
+    ensures { Saved queue.now count (option_copied result.0) }
 {
-    list.copy_from_slice(&queue[0..list.len()]);
+    match count {
+        Some(count) => {
+            let (list, beyond) = free.split_at_mut(count);
+            list.copy_from_slice(&queue[0..count]);
+            (Some(list), beyond)
+        }
+        None => (None, free),
+    }
 }
 
-/// How many places a part of `many` places has: those of its list, or all.
-fn part_size(list: &[u32], many: usize) -> usize
-    ensures { (length list.now ≡ 0 → result ≡ many) × (0 < length list.now → result ≡ length list.now) }
+/// How many places a part has: those of its list, if there is one, or `many`.
+fn part_size(list: Option<&[u32]>, many: usize) -> usize
+    ensures { result ≡ unwrap_or (option_map length (option_copied list.entry)) many }
 {
-    if list.len() == 0 { many } else { list.len() }
+    list.map_or(many, |list| list.len())
 }
 
 /// Takes from a part of `own` the attractor of its places of the heaviest
@@ -42,19 +55,16 @@ fn bring_about_part(
     graph: &Graph,
     many: usize,
     own: &[u32],
-    list: &[u32],
+    list: Option<&[u32]>,
     left: &mut [u32],
     out: &mut [u32],
     queue: &mut [u32],
     escapes: &mut [u32],
 ) -> (u32, usize)
-    requires inside { (n : ℕ) → In (members own.now) n → n < length graph.now }
-    requires sized { Sized graph.now own.now out.old escapes.old }
-    requires part { Part own.now list.now (members left.old) }
-    requires counted { (length list.now ≡ 0 → many ≡ size left.old) × (0 < length list.now → length list.now ≡ size left.old) }
+    requires lent { Lent graph.now own.now out.old queue.old escapes.old }
+    requires part { Part own.now (option_copied list) (members left.old) }
+    requires counted { unwrap_or (option_map length (option_copied list)) many ≡ size left.old }
     requires same { length left.old ≡ length own.now }
-    requires room { size own.now ≤ length queue.old }
-    requires small { 32 * length own.now < 2 ^ 32 }
     ensures heaviest { 0 < size left.old → HeaviestIn graph.now (members left.old) result.0 }
     ensures rest { result.1 ≡ size left.new }
     ensures frame { (n : ℕ) → Out (members left.old) n → Unchanged out.old out.new n }
@@ -75,31 +85,31 @@ fn peel_won(
     graph: &Graph,
     winner: Side,
     many: usize,
-    list: &[u32],
+    list: Option<&[u32]>,
     own: &mut [u32],
     out: &mut [u32],
     queue: &mut [u32],
     escapes: &mut [u32],
 ) -> usize
-    requires inside { (n : ℕ) → In (members own.old) n → n < length graph.now }
-    requires sized { Sized graph.now own.old out.old escapes.old }
-    requires part { (R : Set) × Part own.old list.now R }
+    requires lent { Lent graph.now own.old out.old queue.old escapes.old }
+    requires part { (R : Set) × Part own.old (option_copied list) R }
     requires counted { many ≡ size own.old }
-    requires room { size own.old ≤ length queue.old }
-    requires small { 32 * length own.old < 2 ^ 32 }
     ensures rest { result ≡ size own.new }
     ensures falls { 0 < size own.old → size own.new < size own.old }
     ensures less { Within (members own.new) (members own.old) }
     ensures frame { (n : ℕ) → Out (members own.old) n → Unchanged out.old out.new n }
-    ensures peeled { (R : Set) → Subgame graph.now (members own.old) → Part own.old list.now R → Peeled graph.now (members own.old) (number winner) R (members own.new) out.old out.new }
+    ensures peeled { (R : Set) → Subgame graph.now (members own.old) → Part own.old (option_copied list.entry) R → Peeled graph.now (members own.old) (number winner) R (members own.new) out.old out.new }
 {
-    if list.len() == 0 {
-        bits::clear(own);
-        0
-    } else {
-        let targets = gather_listed(None, list, own, out, queue);
-        let taken = attract_counted(graph, winner, own, out, queue, escapes, targets, many);
-        many - taken
+    match list {
+        Some(list) => {
+            let targets = gather_listed(None, list, own, out, queue);
+            let taken = attract_counted(graph, winner, own, out, queue, escapes, targets, many);
+            many - taken
+        }
+        None => {
+            bits::clear(own);
+            0
+        }
     }
 }
 
@@ -111,23 +121,20 @@ fn peel_part(
     graph: &Graph,
     winner: Side,
     many: usize,
-    list: &[u32],
+    list: Option<&[u32]>,
     own: &mut [u32],
     out: &mut [u32],
     queue: &mut [u32],
     escapes: &mut [u32],
 ) -> usize
-    requires inside { (n : ℕ) → In (members own.old) n → n < length graph.now }
-    requires sized { Sized graph.now own.old out.old escapes.old }
-    requires part { (R : Set) × Part own.old list.now R }
+    requires lent { Lent graph.now own.old out.old queue.old escapes.old }
+    requires part { (R : Set) × Part own.old (option_copied list) R }
     requires counted { many ≡ size own.old }
-    requires room { size own.old ≤ length queue.old }
-    requires small { 32 * length own.old < 2 ^ 32 }
     ensures rest { result ≡ size own.new }
     ensures falls { 0 < size own.old → size own.new < size own.old }
     ensures less { Within (members own.new) (members own.old) }
     ensures frame { (n : ℕ) → Out (members own.old) n → Unchanged out.old out.new n }
-    ensures peels { (R : Set) → Subgame graph.now (members own.old) → Part own.old list.now R → Peels graph.now (members own.old) R (number winner) (other (number winner)) (members own.new) out.old out.new }
+    ensures peels { (R : Set) → Subgame graph.now (members own.old) → Part own.old (option_copied list.entry) R → Peels graph.now (members own.old) R (number winner) (other (number winner)) (members own.new) out.old out.new }
 {
     let loser = winner.other();
     let lost = gather_lost(loser, list, own, out, queue);
@@ -139,18 +146,18 @@ fn peel_part(
     }
 }
 
-/// Solves a subgame of `many` places in which all weights are below `bound`: writes for each
-/// place who wins it, and a move. The smaller games stand in `rest`, one set
-/// for each weight that is left. `within` is empty, or has all places of the
-/// subgame; `spare` is lent for lists of places; where it
-/// is short there are none. `effort` tells when it is worth while to look for
-/// a smaller part.
+/// Solves a subgame of `many` places in which all weights are below `bound`:
+/// writes for each place who wins it, and a move. The smaller games stand in
+/// `rest`, one set for each weight that is left. `within`, if there is one, is
+/// a list with all places of the subgame; `spare` is lent for lists of places;
+/// where it is short there are none. `effort` tells when it is worth while to
+/// look for a smaller part.
 pub fn level_by_parts(
     graph: &Graph,
     bound: u32,
     many: usize,
     own: &mut [u32],
-    within: &[u32],
+    within: Option<&[u32]>,
     rest: &mut [u32],
     spare: &mut [u32],
     out: &mut [u32],
@@ -160,8 +167,8 @@ pub fn level_by_parts(
 )
     requires room { Room graph.now bound own.old rest.old out.old queue.old escapes.old }
     requires counted { many ≡ size own.old }
-    requires covers { Covers own.old within.now }
-    requires inside { (j : ℕ) → j < length within.now → slice_index within.now j < 32 * length own.old }
+    requires covers { ForSome within (λ list. Covers own.old list.now) }
+    requires inside { ForSome within (λ list. (j : ℕ) → j < length list.now → slice_index list.now j < 32 * length own.old) }
     requires playable { Playable graph.now }
     ensures frame { (n : ℕ) → Out (members own.old) n → Unchanged out.old out.new n }
     ensures solves { Subgame graph.now (members own.old) → Solves graph.now (members own.old) (side out.new) (goes out.new) }
@@ -175,8 +182,7 @@ pub fn level_by_parts(
         let (_, free) = spare.split_at_mut(order.kept.min(spare.len()));
         let (left, deeper) = rest.split_at_mut(own.len());
         let count = take_part(graph, start, within, free.len(), own, left, queue);
-        let (list, beyond) = free.split_at_mut(count);
-        save(queue, list);
+        let (list, beyond) = save(queue, count, free);
         let (weight, below) = bring_about_part(
             graph, remaining, own, list, left, out, queue, escapes,
         );

@@ -1,9 +1,10 @@
 //! A closed part of a subgame: the places that can be come to from one of them.
-ghost use Rattle.std.specs.Prelude.{◌≡◌, ℕ, ◌*◌, ◌<◌, ◌≤◌, length, slice_index};
+ghost use Rattle.std.specs.Prelude.{◌≡◌, ℕ, ◌*◌, ◌<◌, ◌≤◌, length, IfSome, slice_index};
+ghost use Rattle.std.specs.Option.{ForSome};
 ghost use Rattle.endless.specs.Sets.{In, Within};
 ghost use Rattle.endless.specs.Subgames.{Closed};
 ghost use Rattle.endless.specs.Bits.{members, size};
-ghost use Rattle.endless.specs.Parts.{Listing, Spread, Covers, PartTaken};
+ghost use Rattle.endless.specs.Parts.{Spacious, Listing, Spread, Covers, PartTaken};
 
 use crate::bits;
 use crate::graph::Graph;
@@ -12,8 +13,7 @@ use crate::graph::Graph;
 /// the set and not there yet. The number of places in the queue then.
 fn spread_to(place: u32, set: &[u32], part: &mut [u32], queue: &mut [u32], count: usize) -> usize
     requires inside { place < 32 * length set.now }
-    requires same { length part.old ≡ length set.now }
-    requires room { size set.now ≤ length queue.old }
+    requires spacious { Spacious set.now part.old queue.old }
     requires lists { Listing set.now part.old queue.old count }
     ensures spread { Spread set.now part.old queue.old count part.new queue.new result }
     ensures holds { In (members set.now) place → In (members part.new) place }
@@ -38,8 +38,7 @@ fn spread_over(
     filled: usize,
 ) -> usize
     requires inside { (k : ℕ) → k < length places.now → slice_index places.now k < 32 * length set.now }
-    requires same { length part.old ≡ length set.now }
-    requires room { size set.now ≤ length queue.old }
+    requires spacious { Spacious set.now part.old queue.old }
     requires lists { Listing set.now part.old queue.old filled }
     ensures spread { Spread set.now part.old queue.old filled part.new queue.new result }
     ensures holds { (k : ℕ) → k < length places.now → In (members set.now) (slice_index places.now k) → In (members part.new) (slice_index places.now k) }
@@ -57,8 +56,7 @@ pub fn reach(graph: &Graph, start: u32, set: &[u32], part: &mut [u32], queue: &m
     requires sets { length graph.now ≤ 32 * length set.now }
     requires places { (n : ℕ) → In (members set.now) n → n < length graph.now }
     requires first { In (members set.now) start }
-    requires same { length part.old ≡ length set.now }
-    requires room { size set.now ≤ length queue.old }
+    requires spacious { Spacious set.now part.old queue.old }
     ensures lists { Listing set.now part.new queue.new result }
     ensures few { result ≤ size set.now }
     ensures holds { In (members part.new) start }
@@ -67,6 +65,7 @@ pub fn reach(graph: &Graph, start: u32, set: &[u32], part: &mut [u32], queue: &m
     bits::clear(part);
     let mut head = 0;
     let mut tail = spread_to(start, set, part, queue, 0);
+    // The queue grows on the way, so that no iterator can borrow it.
     while head < tail {
         let from = queue[head];
         head += 1;
@@ -77,7 +76,7 @@ pub fn reach(graph: &Graph, start: u32, set: &[u32], part: &mut [u32], queue: &m
 
 /// Makes `part` a closed part of the set: what can be come to from `start`, if
 /// it is there and as many places have room; then these stand in the queue,
-/// and their number is told. Else all of the set, and 0.
+/// and their number is told. Else all of the set.
 fn part_from(
     graph: &Graph,
     start: u32,
@@ -85,84 +84,82 @@ fn part_from(
     set: &[u32],
     part: &mut [u32],
     queue: &mut [u32],
-) -> usize
+) -> Option<usize>
     requires sets { length graph.now ≤ 32 * length set.now }
     requires places { (n : ℕ) → In (members set.now) n → n < length graph.now }
-    requires same { length part.old ≡ length set.now }
-    requires queues { size set.now ≤ length queue.old }
-    ensures fits { result ≤ room }
+    requires spacious { Spacious set.now part.old queue.old }
+    ensures fits { IfSome result (λ k. k ≤ room) }
     ensures taken { PartTaken graph.now set.now part.new queue.new result }
 {
     if start < graph.len() && bits::has(set, start) {
         let count = reach(graph, start, set, part, queue);
         if count <= room {
-            return count;
+            return Some(count);
         }
     }
     bits::copy(set, part);
-    0
+    None
 }
 
 /// Lists the places of a set, which are among those of a list, in the queue,
 /// and makes `part` the same set. How many there are.
-fn list_all(within: &[u32], set: &[u32], part: &mut [u32], queue: &mut [u32]) -> usize
-    requires inside { (j : ℕ) → j < length within.now → slice_index within.now j < 32 * length set.now }
-    requires same { length part.old ≡ length set.now }
-    requires room { size set.now ≤ length queue.old }
+fn list_all(list: &[u32], set: &[u32], part: &mut [u32], queue: &mut [u32]) -> usize
+    requires inside { (j : ℕ) → j < length list.now → slice_index list.now j < 32 * length set.now }
+    requires spacious { Spacious set.now part.old queue.old }
     ensures lists { Listing set.now part.new queue.new result }
-    ensures all { 0 < length within.now → Covers set.now within.now → Within (members set.now) (members part.new) }
+    ensures all { Covers set.now list.now → Within (members set.now) (members part.new) }
 {
     bits::clear(part);
-    spread_over(within, set, part, queue, 0)
+    spread_over(list, set, part, queue, 0)
 }
 
 /// Makes `part` all of the set; where there is a list with all its places,
 /// which is short beside the room, they stand in the queue, and their number
-/// is told. Else 0.
+/// is told.
 fn part_within(
     graph: &Graph,
-    within: &[u32],
+    within: Option<&[u32]>,
     room: usize,
     set: &[u32],
     part: &mut [u32],
     queue: &mut [u32],
-) -> usize
-    requires covers { Covers set.now within.now }
-    requires inside { (j : ℕ) → j < length within.now → slice_index within.now j < 32 * length set.now }
-    requires same { length part.old ≡ length set.now }
-    requires queues { size set.now ≤ length queue.old }
-    ensures fits { result ≤ room }
+) -> Option<usize>
+    requires covers { ForSome within (λ list. Covers set.now list.now) }
+    requires inside { ForSome within (λ list. (j : ℕ) → j < length list.now → slice_index list.now j < 32 * length set.now) }
+    requires spacious { Spacious set.now part.old queue.old }
+    ensures fits { IfSome result (λ k. k ≤ room) }
     ensures taken { PartTaken graph.now set.now part.new queue.new result }
 {
-    if within.len() > 0 && within.len() <= room / 8 {
-        let count = list_all(within, set, part, queue);
-        if count <= room {
-            return count;
+    if let Some(list) = within {
+        if list.len() <= room / 8 {
+            let count = list_all(list, set, part, queue);
+            if count <= room {
+                return Some(count);
+            }
         }
     }
     bits::copy(set, part);
-    0
+    None
 }
 
 /// Makes `part` a closed part of the set: what can be come to from `start`, if
-/// there is one, else all of it. Their number, if they stand in the queue, and
-/// else 0: then the part is all of the set.
+/// there is one, else all of it. Their number, if they stand in the queue;
+/// where they do not, the part is all of the set.
 pub fn take_part(
     graph: &Graph,
     start: Option<u32>,
-    within: &[u32],
+    within: Option<&[u32]>,
     room: usize,
     set: &[u32],
     part: &mut [u32],
     queue: &mut [u32],
-) -> usize
+) -> Option<usize>
     requires sets { length graph.now ≤ 32 * length set.now }
     requires places { (n : ℕ) → In (members set.now) n → n < length graph.now }
-    requires covers { Covers set.now within.now }
-    requires inside { (j : ℕ) → j < length within.now → slice_index within.now j < 32 * length set.now }
-    requires same { length part.old ≡ length set.now }
-    requires queues { size set.now ≤ length queue.old }
-    ensures fits { result ≤ room }
+    requires covers { ForSome within (λ list. Covers set.now list.now) }
+    requires inside { ForSome within (λ list. (j : ℕ) → j < length list.now → slice_index list.now j < 32 * length set.now) }
+    requires spacious { Spacious set.now part.old queue.old }
+    ensures fits { IfSome result (λ k. k ≤ room) }
     ensures taken { PartTaken graph.now set.now part.new queue.new result }
 {
     match start {

@@ -1,29 +1,29 @@
 //! Places of a set, gathered into the queue: the heaviest, and those that a side has won.
-ghost use Rattle.std.specs.Prelude.{◌≡◌, ℕ, ◌+◌, ◌*◌, ◌^◌, ◌<◌, ◌≤◌, length, ◌==◌, slice_index};
+ghost use Rattle.std.specs.Prelude.{◌≡◌, ℕ, ◌+◌, ◌*◌, ◌^◌, ◌<◌, ◌≤◌, List, length, option_copied, ◌==◌, slice_index};
+ghost use Rattle.std.specs.Option.{ForSome};
+ghost use Rattle.std.specs.Iterator.{IsFinite};
 ghost use Rattle.endless.specs.Says.{side};
 ghost use Rattle.endless.specs.Sets.{Set, In, Out, Within, having};
 ghost use Rattle.endless.specs.Sides.{number};
 ghost use Rattle.endless.specs.Bits.{members, size};
 ghost use Rattle.endless.specs.Pulling.{Unchanged, Starts};
-ghost use Rattle.endless.specs.Levels.{HeaviestIn, HeaviestOf, GatheredIn, Given, Taken, TakenIf, Stays};
-ghost use Rattle.endless.specs.Parts.{Told, Part, PickedIf, wanted, mark};
+ghost use Rattle.endless.specs.Levels.{HeaviestIn, HeaviestOf, GatheredIn, Fitting, Given, Taken, TakenIf, Stays};
+ghost use Rattle.endless.specs.Parts.{Told, Covers, Gives, Part, PickedIf, wanted, mark};
 
 use crate::attractor::first_into;
 use crate::bits;
 use crate::graph::Graph;
 use crate::side::Side;
 
-/// The heaviest weight of the places of a set.
-pub(crate) fn heaviest(graph: &Graph, set: &[u32]) -> u32
-    requires inside { (n : ℕ) → In (members set.now) n → n < length graph.now }
-    requires small { 32 * length set.now < 2 ^ 32 }
-    ensures { 0 < size set.now → HeaviestIn graph.now (members set.now) result }
+/// The heaviest weight of these places.
+fn heaviest<I: Iterator<Item = u32> + Drop>(graph: &Graph, places: I) -> u32
+    requires can { I.can_next places }
+    requires ends { IsFinite (I.remaining places) }
+    requires inside { (list : List ℕ) × Gives I.next_gives places list × ((j : ℕ) → j < length list → slice_index list j < length graph.now) }
+    ensures { (list : List ℕ) → Gives I.next_gives places list → 0 < length list → HeaviestOf graph.now list result }
 {
-    let mut heaviest: u32 = 0;
-    for place in bits::iter(set) {
-        heaviest = heaviest.max(graph.weight(place));
-    }
-    heaviest
+    let heaviest = places.map(|place| graph.weight(place)).max();
+    heaviest.unwrap_or(0)
 }
 
 /// A move of a place that stays in the set, where it has one.
@@ -64,9 +64,7 @@ fn take_place(
     count: usize,
 )
     requires place { place < length graph.now }
-    requires answers { 2 * length graph.now ≤ length out.old }
-    requires sets { length graph.now ≤ 32 * length own.now }
-    requires same { length left.old ≡ length own.now }
+    requires fitting { Fitting graph.now own.now left.old out.old }
     requires room { count < length queue.old }
     ensures { Taken graph.now (number side) place (members own.now) count left.old queue.old out.old left.new queue.new out.new }
 {
@@ -75,64 +73,17 @@ fn take_place(
     queue[count] = place;
 }
 
-/// Puts the places of a weight into the queue, each given to `side` with a
-/// move of it that stays in `own`; `left`, a part of it, becomes the others.
-fn gather_heaviest_in(
-    graph: &Graph,
-    side: Side,
-    heaviest: u32,
-    own: &[u32],
-    left: &mut [u32],
-    out: &mut [u32],
-    queue: &mut [u32],
-) -> usize
-    requires inside { (n : ℕ) → In (members left.old) n → n < length graph.now }
-    requires answers { 2 * length graph.now ≤ length out.old }
-    requires sets { length graph.now ≤ 32 * length own.now }
-    requires same { length left.old ≡ length own.now }
-    requires room { size left.old ≤ length queue.old }
-    requires small { 32 * length own.now < 2 ^ 32 }
-    ensures counts { result + size left.new ≡ size left.old }
-    ensures frame { (n : ℕ) → Out (members left.old) n → Unchanged out.old out.new n }
-    ensures gathered { GatheredIn graph.now (members left.old) (members own.now) (number side) heaviest left.new queue.new out.new result }
-{
-    let mut count = 0;
-    let mut from = 0;
-    // The set loses members on the way, so that no iterator can borrow it.
-    while let Some(place) = bits::next(left, from) {
-        if graph.weight(place) == heaviest {
-            take_place(graph, side, place, own, left, out, queue, count);
-            count += 1;
-        }
-        from = place + 1;
-    }
-    count
-}
-
-/// The heaviest weight of the places of a list.
-fn heaviest_of(graph: &Graph, list: &[u32]) -> u32
-    requires { (j : ℕ) → j < length list.now → slice_index list.now j < length graph.now }
-    ensures { 0 < length list.now → HeaviestOf graph.now list.now result }
-{
-    let mut most: u32 = 0;
-    for place in list {
-        most = most.max(graph.weight(*place));
-    }
-    most
-}
-
 /// The heaviest weight of a part, told by a list of its places, if there is
 /// one.
-pub(crate) fn heaviest_in(graph: &Graph, list: &[u32], part: &[u32]) -> u32
+pub(crate) fn heaviest_in(graph: &Graph, list: Option<&[u32]>, part: &[u32]) -> u32
     requires inside { (n : ℕ) → In (members part.now) n → n < length graph.now }
-    requires told { Told list.now (members part.now) }
+    requires told { ForSome list (λ list. Told list.now (members part.now)) }
     requires small { 32 * length part.now < 2 ^ 32 }
     ensures { 0 < size part.now → HeaviestIn graph.now (members part.now) result }
 {
-    if list.len() == 0 {
-        heaviest(graph, part)
-    } else {
-        heaviest_of(graph, list)
+    match list {
+        Some(list) => heaviest(graph, list.iter().copied()),
+        None => heaviest(graph, bits::iter(part)),
     }
 }
 
@@ -150,12 +101,9 @@ fn take_heavy(
     count: usize,
 ) -> usize
     requires place { place < length graph.now }
-    requires answers { 2 * length graph.now ≤ length out.old }
-    requires sets { length graph.now ≤ 32 * length own.now }
-    requires same { length left.old ≡ length own.now }
+    requires fitting { Fitting graph.now own.now left.old out.old }
     requires room { count + size left.old ≤ length queue.old }
     requires few { count ≤ 32 * length own.now }
-    requires small { 32 * length own.now < 2 ^ 32 }
     ensures { TakenIf graph.now (number side) heaviest place (members own.now) count left.old queue.old out.old left.new queue.new out.new result }
 {
     if !bits::has(left, place) {
@@ -168,30 +116,31 @@ fn take_heavy(
     count + 1
 }
 
-/// Does what `gather_heaviest_in` does, by a list of the places.
-fn gather_heaviest_of(
+/// Puts the places of a weight into the queue, each given to `side` with a
+/// move of it that stays in `own`; `left`, of which these are all places,
+/// becomes the others.
+fn gather_heaviest<I: Iterator<Item = u32> + Drop>(
     graph: &Graph,
     side: Side,
     heaviest: u32,
-    list: &[u32],
+    places: I,
     own: &[u32],
     left: &mut [u32],
     out: &mut [u32],
     queue: &mut [u32],
 ) -> usize
-    requires inside { (j : ℕ) → j < length list.now → slice_index list.now j < length graph.now }
-    requires answers { 2 * length graph.now ≤ length out.old }
-    requires sets { length graph.now ≤ 32 * length own.now }
-    requires same { length left.old ≡ length own.now }
+    requires can { I.can_next places }
+    requires ends { IsFinite (I.remaining places) }
+    requires inside { (list : List ℕ) × Gives I.next_gives places list × ((j : ℕ) → j < length list → slice_index list j < length graph.now) }
+    requires fitting { Fitting graph.now own.now left.old out.old }
     requires room { size left.old ≤ length queue.old }
-    requires small { 32 * length own.now < 2 ^ 32 }
     ensures counts { result + size left.new ≡ size left.old }
     ensures frame { (n : ℕ) → Out (members left.old) n → Unchanged out.old out.new n }
-    ensures gathered { 0 < length list.now → Told list.now (members left.old) → GatheredIn graph.now (members left.old) (members own.now) (number side) heaviest left.new queue.new out.new result }
+    ensures gathered { (list : List ℕ) → Gives I.next_gives places list → Covers left.old list → GatheredIn graph.now (members left.old) (members own.now) (number side) heaviest left.new queue.new out.new result }
 {
     let mut count = 0;
-    for place in list {
-        count = take_heavy(graph, side, heaviest, *place, own, left, out, queue, count);
+    for place in places {
+        count = take_heavy(graph, side, heaviest, place, own, left, out, queue, count);
     }
     count
 }
@@ -202,27 +151,30 @@ pub(crate) fn gather_targets(
     graph: &Graph,
     side: Side,
     heaviest: u32,
-    list: &[u32],
+    list: Option<&[u32]>,
     own: &[u32],
     left: &mut [u32],
     out: &mut [u32],
     queue: &mut [u32],
 ) -> usize
-    requires inside { (n : ℕ) → In (members left.old) n → n < length graph.now }
-    requires answers { 2 * length graph.now ≤ length out.old }
-    requires sets { length graph.now ≤ 32 * length own.now }
-    requires told { Told list.now (members left.old) }
-    requires same { length left.old ≡ length own.now }
+    requires inside { (n : ℕ) → In (members own.now) n → n < length graph.now }
+    requires part { Within (members left.old) (members own.now) }
+    requires fitting { Fitting graph.now own.now left.old out.old }
+    requires told { ForSome list (λ list. Told list.now (members left.old)) }
     requires room { size left.old ≤ length queue.old }
-    requires small { 32 * length own.now < 2 ^ 32 }
     ensures counts { result + size left.new ≡ size left.old }
     ensures frame { (n : ℕ) → Out (members left.old) n → Unchanged out.old out.new n }
     ensures gathered { GatheredIn graph.now (members left.old) (members own.now) (number side) heaviest left.new queue.new out.new result }
 {
-    if list.len() == 0 {
-        gather_heaviest_in(graph, side, heaviest, own, left, out, queue)
-    } else {
-        gather_heaviest_of(graph, side, heaviest, list, own, left, out, queue)
+    match list {
+        Some(list) => {
+            let places = list.iter().copied();
+            gather_heaviest(graph, side, heaviest, places, own, left, out, queue)
+        }
+        None => {
+            let places = bits::iter(own);
+            gather_heaviest(graph, side, heaviest, places, own, left, out, queue)
+        }
     }
 }
 
@@ -239,7 +191,8 @@ pub(crate) fn gather_won(winner: Side, set: &mut [u32], out: &[u32], queue: &mut
     let word = winner.to_word();
     let mut count = 0;
     let mut from = 0;
-    // The set loses members on the way, so that no iterator can borrow it.
+    // The set loses members on the way, so that no iterator can borrow it, as
+    // one borrows the list of `gather_listed`.
     while let Some(place) = bits::next(set, from) {
         if out[2 * place as usize] == word {
             bits::remove(set, place);
@@ -303,7 +256,7 @@ pub(crate) fn gather_listed(
     requires room { size set.old ≤ length queue.old }
     ensures counts { result + size set.new ≡ size set.old }
     ensures same { result ≡ 0 → set.new ≡ set.old }
-    ensures starts { (R : Set) → 0 < length list.now → Within R (members set.old) → Told list.now R → Starts (members set.old) (having R (wanted winner out.now) (mark winner)) set.new queue.new result }
+    ensures starts { (R : Set) → Within R (members set.old) → Told list.now R → Starts (members set.old) (having R (wanted winner out.now) (mark winner)) set.new queue.new result }
 {
     let mut count = 0;
     for place in list {
@@ -316,22 +269,21 @@ pub(crate) fn gather_listed(
 /// and puts them into the queue.
 pub(crate) fn gather_lost(
     winner: Side,
-    list: &[u32],
+    list: Option<&[u32]>,
     set: &mut [u32],
     out: &[u32],
     queue: &mut [u32],
 ) -> usize
-    requires part { (R : Set) × Part set.old list.now R }
+    requires part { (R : Set) × Part set.old (option_copied list) R }
     requires answers { (n : ℕ) → In (members set.old) n → 2 * n < length out.now }
     requires room { size set.old ≤ length queue.old }
     requires small { 32 * length set.old < 2 ^ 32 }
     ensures counts { result + size set.new ≡ size set.old }
     ensures same { result ≡ 0 → set.new ≡ set.old }
-    ensures starts { (R : Set) → Part set.old list.now R → Starts (members set.old) (having R (side out.now) (number winner)) set.new queue.new result }
+    ensures starts { (R : Set) → Part set.old (option_copied list.entry) R → Starts (members set.old) (having R (side out.now) (number winner)) set.new queue.new result }
 {
-    if list.len() == 0 {
-        gather_won(winner, set, out, queue)
-    } else {
-        gather_listed(Some(winner), list, set, out, queue)
+    match list {
+        Some(list) => gather_listed(Some(winner), list, set, out, queue),
+        None => gather_won(winner, set, out, queue),
     }
 }

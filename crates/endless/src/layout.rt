@@ -111,7 +111,7 @@ pub(crate) fn solve_game<'a>(words: &'a [u32], out: &mut [u32], work: &'a mut [u
         256,
         words[0] as usize,
         all,
-        &words[0..0],
+        None,
         sets,
         spare,
         out,

@@ -15,7 +15,9 @@ use crate::order::Effort;
 /// Solves a subgame in which all weights are below `bound`: writes for each
 /// place who wins it, and a move. The smaller games stand in `rest`, one set
 /// for each weight that is left. It is the recursion by closed parts where no
-/// words are spare for lists, so that each part is all of its subgame.
+/// words are spare for lists, so that each part is all of its subgame: for
+/// callers with a subgame of their own, who keep no lists of its places, do not
+/// know how many it has, and have no words to lend but its sets.
 pub fn level(
     graph: &Graph,
     bound: u32,
@@ -37,7 +39,7 @@ pub fn level(
         bound,
         many,
         own,
-        &[],
+        None,
         sets,
         spare,
         out,

@@ -1,4 +1,4 @@
-use Rattle.std.proofs.Common.{ℕ, List, sym, refl, ◌∙◌, subst, arith}
+use Rattle.std.proofs.Common.{◌≡◌, ℕ, List, Option, length, option_copied, option_map, unwrap_or, sym, refl, ap, ◌∙◌, subst, arith}
 use Rattle.endless.specs.Games.{other}
 use Rattle.endless.specs.Says.{side, goes}
 use Rattle.endless.specs.Subgames.{Solves}
@@ -11,7 +11,7 @@ use Rattle.endless.proofs.Places.{other_below, not_other}
 use Rattle.endless.proofs.Tests.{T_true}
 use Rattle.endless.proofs.SetLaws.{members_below}
 use Rattle.endless.proofs.Picking.{told_in}
-use Rattle.endless.proofs.Levels.{room_now, room_set, room_light, room_below, leveling_more, leveling_all, solves_none}
+use Rattle.endless.proofs.Levels.{room_now, room_lent, room_set, room_light, room_below, leveling_more, leveling_all, solves_none}
 use Rattle.endless.proofs.by_parts.+level_by_parts.Goals as goal
 use Rattle.endless.proofs.by_parts.+level_by_parts.Goals.{then-below-gt0, else-below-gt0}
 
@@ -19,35 +19,35 @@ pub split_at_mut-left-requires : goal.split_at_mut-left-requires
 split_at_mut-left-requires t c = room_set c.loop-remaining.invariant.2 (omega (arith, c.loop-remaining.invariant.1))
 
 pub take_part-count-requires-clause-covers : goal.take_part-count-requires-clause-covers
-take_part-count-requires-clause-covers t c = λ some n x. c.requires.covers some n (c.loop-remaining.invariant.0.less n x)
+take_part-count-requires-clause-covers t c = λ list e n x. c.requires.covers list e n (c.loop-remaining.invariant.0.less n x)
 
 pub take_part-count-requires-clause-inside : goal.take_part-count-requires-clause-inside
-take_part-count-requires-clause-inside t c = λ j h. omega (arith, c.requires.inside j h)
+take_part-count-requires-clause-inside t c = λ list e j h. omega (arith, c.requires.inside list e j h)
 
-pub take_part-count-requires-clause-queues : goal.take_part-count-requires-clause-queues
-take_part-count-requires-clause-queues t c = omega (arith, c.loop-remaining.invariant.2.queues)
+pub take_part-count-requires-clause-spacious : goal.take_part-count-requires-clause-spacious
+take_part-count-requires-clause-spacious t c = record { same = omega (arith, c.split_at_mut-left.ensures.front_len); room = omega (arith, c.loop-remaining.invariant.2.queues) }
 
-pub save-requires : goal.save-requires
-save-requires t c = omega (arith, c.split_at_mut-list.ensures.front_len, c.take_part-count.ensures.taken.few, c.loop-remaining.invariant.2.queues)
+pub save-beyond-requires : goal.save-beyond-requires
+save-beyond-requires t c = λ k e. let fits = rw e at c.take_part-count.ensures.fits in (omega (arith, c.take_part-count.ensures.taken.few k e, c.loop-remaining.invariant.2.queues), omega (arith, fits))
 
-pub bring_about_part-weight-requires-clause-sized : goal.bring_about_part-weight-requires-clause-sized
-bring_about_part-weight-requires-clause-sized t c = let k = c.loop-remaining.invariant.2.sized in record { sets = k.sets; answers = omega (arith, k.answers); cursors = omega (arith, k.cursors) }
+pub bring_about_part-weight-requires-clause-lent : goal.bring_about_part-weight-requires-clause-lent
+bring_about_part-weight-requires-clause-lent t c = room_lent c.loop-remaining.invariant.2 (omega arith) (omega arith) (omega arith)
 
 pub bring_about_part-weight-requires-clause-part : goal.bring_about_part-weight-requires-clause-part
-bring_about_part-weight-requires-clause-part t c = c.take_part-count.ensures.taken.listed c.save.new.list (omega (arith, c.split_at_mut-list.ensures.front_len)) (λ j h. c.save.ensures j (omega (arith, c.split_at_mut-list.ensures.front_len)))
+bring_about_part-weight-requires-clause-part t c = c.take_part-count.ensures.taken.listed (option_copied c.save-beyond.result.0) c.save-beyond.ensures
 
 pub bring_about_part-weight-requires-clause-counted : goal.bring_about_part-weight-requires-clause-counted
 bring_about_part-weight-requires-clause-counted t c =
-    let sizes = c.take_part-count.ensures.taken.sizes in
-    let long = c.split_at_mut-list.ensures.front_len in
-    (λ e. c.loop-remaining.invariant.1 ∙ sym (sizes.0 (omega arith)), λ h. omega (arith, sizes.1 (omega arith)))
+    let taken = c.take_part-count.ensures.taken in
+    let long : unwrap_or (option_map length (option_copied c.save-beyond.result.0)) c.loop-remaining.remaining ≡ unwrap_or c.take_part-count.result c.loop-remaining.remaining = ap (λ (k : Option ℕ). unwrap_or k c.loop-remaining.remaining) c.save-beyond.ensures.long in
+    long ∙ ap (unwrap_or c.take_part-count.result) c.loop-remaining.invariant.1 ∙ taken.sizes
 
 pub level_by_parts-requires : goal.level_by_parts-requires
 level_by_parts-requires t c =
     let room = c.loop-remaining.invariant.2 in
     let closed = c.take_part-count.ensures.taken.closed in
     let heavy = c.bring_about_part-weight.ensures.heaviest (c.take_part-count.ensures.taken.some_place (omega (arith, c.loop-remaining.invariant.1))) in
-    let part = c.take_part-count.ensures.taken.listed c.save.new.list (omega (arith, c.split_at_mut-list.ensures.front_len)) (λ j h. c.save.ensures j (omega (arith, c.split_at_mut-list.ensures.front_len))) in
+    let part = c.take_part-count.ensures.taken.listed (option_copied c.save-beyond.result.0) c.save-beyond.ensures in
     let brought = c.bring_about_part-weight.ensures.brought room.subgame closed in (
       omega (arith, c.decreases, room_light c.take_part-count.new.part room closed heavy),
       (
@@ -55,18 +55,18 @@ level_by_parts-requires t c =
         (
           c.bring_about_part-weight.ensures.rest,
           (
-            λ h n x. (part.told h n).0 (brought.within n x),
-            (λ j h. omega (arith, members_below c.loop-remaining.own _ (T_true _ (part.within _ (told_in c.save.new.list _ part.told j h))), c.split_at_mut-left.ensures.front_len), c.requires.playable),
+            λ list e n x. (part.told _ (ap option_copied e) n).0 (brought.within n x),
+            (λ list e j h. omega (arith, members_below c.loop-remaining.own _ (T_true _ (part.within _ (told_in list.now _ (part.told _ (ap option_copied e)) j h))), c.split_at_mut-left.ensures.front_len), c.requires.playable),
           ),
         ),
       ),
     )
 
-pub peel_part-remaining-requires-clause-sized : goal.peel_part-remaining-requires-clause-sized
-peel_part-remaining-requires-clause-sized t c = let k = c.loop-remaining.invariant.2.sized in record { sets = k.sets; answers = omega (arith, k.answers); cursors = omega (arith, k.cursors) }
+pub peel_part-remaining-requires-clause-lent : goal.peel_part-remaining-requires-clause-lent
+peel_part-remaining-requires-clause-lent t c = room_lent c.loop-remaining.invariant.2 (omega arith) (omega arith) (omega arith)
 
 pub peel_part-remaining-requires-clause-part : goal.peel_part-remaining-requires-clause-part
-peel_part-remaining-requires-clause-part t c = (members c.take_part-count.new.part, c.take_part-count.ensures.taken.listed c.save.new.list (omega (arith, c.split_at_mut-list.ensures.front_len)) (λ j h. c.save.ensures j (omega (arith, c.split_at_mut-list.ensures.front_len))))
+peel_part-remaining-requires-clause-part t c = (members c.take_part-count.new.part, c.take_part-count.ensures.taken.listed (option_copied c.save-beyond.result.0) c.save-beyond.ensures)
 
 pub loop-remaining-preserved : goal.loop-remaining-preserved
 loop-remaining-preserved t c =
@@ -94,7 +94,7 @@ loop-remaining-preserved t c =
       ];
       third_frame = c.peel_part-remaining.ensures.frame;
       peels = λ sub. subst (λ (w : ℕ). Peels c.args.graph.now (members c.loop-remaining.own) (members c.take_part-count.new.part) w (other (number c.of_weight.result)) (members c.peel_part-remaining.new.own) c.if-below-gt0.out c.peel_part-remaining.new.out) (sym c.of_weight.ensures)
-          (c.peel_part-remaining.ensures.peels (members c.take_part-count.new.part) sub (c.take_part-count.ensures.taken.listed c.save.new.list (omega (arith, c.split_at_mut-list.ensures.front_len)) (λ j h. c.save.ensures j (omega (arith, c.split_at_mut-list.ensures.front_len)))));
+          (c.peel_part-remaining.ensures.peels (members c.take_part-count.new.part) sub (c.take_part-count.ensures.taken.listed (option_copied c.save-beyond.result.0) c.save-beyond.ensures));
     }) in
     (leveling, c.peel_part-remaining.ensures.rest, room_now c.requires.room leveling (omega arith) (omega arith) (omega arith) (omega arith) (omega arith))
 

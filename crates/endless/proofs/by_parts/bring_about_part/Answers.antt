@@ -4,37 +4,34 @@ use Rattle.endless.specs.Levels.{Brought}
 use Rattle.endless.proofs.Tests.{T_true, true_T}
 use Rattle.endless.proofs.SetLaws.{size_sub}
 use Rattle.endless.proofs.Steps.{closed_subgame}
-use Rattle.endless.proofs.Levels.{then_unchanged, brought_in, part_counted}
+use Rattle.endless.proofs.Levels.{then_unchanged, brought_in}
 use Rattle.endless.proofs.by_parts.bring_about_part.Goals as goal
 
 pub heaviest_in-weight-requires-clause-inside : goal.heaviest_in-weight-requires-clause-inside
-heaviest_in-weight-requires-clause-inside c = λ n x. c.requires.inside n (c.requires.part.within n x)
-
-pub gather_targets-targets-requires-clause-inside : goal.gather_targets-targets-requires-clause-inside
-gather_targets-targets-requires-clause-inside c = λ n x. c.requires.inside n (c.requires.part.within n x)
+heaviest_in-weight-requires-clause-inside c = λ n x. c.requires.lent.inside n (c.requires.part.within n x)
 
 pub gather_targets-targets-requires-clause-room : goal.gather_targets-targets-requires-clause-room
-gather_targets-targets-requires-clause-room c = omega (arith, c.requires.room, size_sub c.args.left.now c.args.own.now c.requires.same (λ j x. T_true _ (c.requires.part.within j (true_T _ x))))
+gather_targets-targets-requires-clause-room c = omega (arith, c.requires.lent.queues, size_sub c.args.left.now c.args.own.now c.requires.same (λ j x. T_true _ (c.requires.part.within j (true_T _ x))))
 
 pub attract_counted-taken-requires : goal.attract_counted-taken-requires
 attract_counted-taken-requires c =
     let starts = c.gather_targets-targets.ensures.gathered.starts in
     record {
-      sized = record { sets = omega (arith, c.requires.sized.sets, c.requires.same); answers = omega (arith, c.requires.sized.answers); cursors = c.requires.sized.cursors };
-      inside = λ n x. c.requires.inside n (c.requires.part.within n (starts.rest n x));
-      targets = λ j h. c.requires.inside _ (c.requires.part.within _ (starts.inside _ (starts.first j h)));
-      room = omega (arith, c.gather_targets-targets.ensures.counts, c.requires.room, size_sub c.args.left.now c.args.own.now c.requires.same (λ j x. T_true _ (c.requires.part.within j (true_T _ x))));
-      counted = part_counted c.requires.counted c.part_size-all.ensures ∙ sym c.gather_targets-targets.ensures.counts;
+      sized = record { sets = omega (arith, c.requires.lent.sized.sets, c.requires.same); answers = omega (arith, c.requires.lent.sized.answers); cursors = c.requires.lent.sized.cursors };
+      inside = λ n x. c.requires.lent.inside n (c.requires.part.within n (starts.rest n x));
+      targets = λ j h. c.requires.lent.inside _ (c.requires.part.within _ (starts.inside _ (starts.first j h)));
+      room = omega (arith, c.gather_targets-targets.ensures.counts, c.requires.lent.queues, size_sub c.args.left.now c.args.own.now c.requires.same (λ j x. T_true _ (c.requires.part.within j (true_T _ x))));
+      counted = c.part_size-all.ensures ∙ c.requires.counted ∙ sym c.gather_targets-targets.ensures.counts;
     }
 
 pub overflow_sub-result : goal.overflow_sub-result
-overflow_sub-result c = omega (arith, part_counted c.requires.counted c.part_size-all.ensures, c.gather_targets-targets.ensures.counts, c.attract_counted-taken.ensures.moved.counts)
+overflow_sub-result c = omega (arith, c.part_size-all.ensures, c.requires.counted, c.gather_targets-targets.ensures.counts, c.attract_counted-taken.ensures.moved.counts)
 
 pub returns : goal.returns
 returns c =
     let ga = c.gather_targets-targets.ensures.gathered in
     record {
-      rest = omega (arith, part_counted c.requires.counted c.part_size-all.ensures, c.gather_targets-targets.ensures.counts, c.attract_counted-taken.ensures.moved.counts);
+      rest = omega (arith, c.part_size-all.ensures, c.requires.counted, c.gather_targets-targets.ensures.counts, c.attract_counted-taken.ensures.moved.counts);
       heaviest = c.heaviest_in-weight.ensures;
       frame = λ n x. then_unchanged c.args.out.now c.gather_targets-targets.new.out c.attract_counted-taken.new.out n (c.gather_targets-targets.ensures.frame n x) (c.attract_counted-taken.ensures.moved.frame n (λ y. absurd (x (ga.starts.rest n y))));
       brought = λ sub closed.

@@ -1,4 +1,5 @@
 use Rattle.std.proofs.Common.{ℕ, List, sym, ◌∙◌, subst, inl, inr, arith}
+use Rattle.std.specs.Prelude.{option_copied}
 use Rattle.endless.specs.Subgames.{Subgame}
 use Rattle.endless.specs.Bits.{members}
 use Rattle.endless.specs.Sides.{number}
@@ -8,7 +9,7 @@ use Rattle.endless.proofs.Levels.{none_lost, peeled_of}
 use Rattle.endless.proofs.by_parts.peel_part.Goals as goal
 
 pub gather_lost-lost-requires-clause-answers : goal.gather_lost-lost-requires-clause-answers
-gather_lost-lost-requires-clause-answers c = λ n x. omega (arith, c.requires.inside n x, c.requires.sized.answers)
+gather_lost-lost-requires-clause-answers c = λ n x. omega (arith, c.requires.lent.inside n x, c.requires.lent.sized.answers)
 
 pub peel_won-requires : goal.peel_won-requires
 peel_won-requires c =
@@ -16,12 +17,14 @@ peel_won-requires c =
     let same = c.gather_lost-lost.ensures.same c.if-lost-eq0.true in
     let starts = c.gather_lost-lost.ensures.starts r.0 r.1 in
     record {
-      inside = λ n x. c.requires.inside n (starts.rest n x);
-      sized = record { sets = omega (arith, c.requires.sized.sets); answers = c.requires.sized.answers; cursors = c.requires.sized.cursors };
-      part = (r.0, subst (λ (l : List ℕ). Part l c.args.list.now r.0) (sym same) r.1);
+      lent = record {
+        inside = λ n x. c.requires.lent.inside n (starts.rest n x);
+        sized = record { sets = omega (arith, c.requires.lent.sized.sets); answers = c.requires.lent.sized.answers; cursors = c.requires.lent.sized.cursors };
+        queues = omega (arith, c.gather_lost-lost.ensures.counts, c.requires.lent.queues);
+        small = omega (arith, c.requires.lent.small);
+      };
+      part = (r.0, subst (λ (l : List ℕ). Part l (option_copied c.args.list) r.0) (sym same) r.1);
       counted = omega (arith, c.gather_lost-lost.ensures.counts, c.requires.counted);
-      room = omega (arith, c.gather_lost-lost.ensures.counts, c.requires.room);
-      small = omega (arith, c.requires.small);
     }
 
 pub returns-then-lost-eq0 : goal.returns-then-lost-eq0
@@ -38,7 +41,7 @@ returns-then-lost-eq0 c =
       peels = λ R sub part. inl (
         λ n u e. none_lost R c.args.out.now c.if-lost-eq0.true (c.gather_lost-lost.ensures.starts R part) n u (e ∙ sym c.other-loser.ensures),
         subst (λ (l : List ℕ). Peeled c.args.graph.now (members l) (number c.args.winner) R (members c.peel_won.new.own) c.args.out.now c.peel_won.new.out) same
-            (ends.peeled R (subst (λ (l : List ℕ). Subgame c.args.graph.now (members l)) (sym same) sub) (subst (λ (l : List ℕ). Part l c.args.list.now R) (sym same) part)),
+            (ends.peeled R (subst (λ (l : List ℕ). Subgame c.args.graph.now (members l)) (sym same) sub) (subst (λ (l : List ℕ). Part l (option_copied c.args.list) R) (sym same) part)),
       );
     }
 
@@ -47,10 +50,10 @@ attract_counted-taken-requires c =
     let r = c.requires.part in
     let starts = c.gather_lost-lost.ensures.starts r.0 r.1 in
     record {
-      sized = record { sets = omega (arith, c.requires.sized.sets); answers = c.requires.sized.answers; cursors = c.requires.sized.cursors };
-      inside = λ n x. c.requires.inside n (starts.rest n x);
-      targets = λ j h. c.requires.inside _ (starts.inside _ (starts.first j h));
-      room = omega (arith, c.gather_lost-lost.ensures.counts, c.requires.room);
+      sized = record { sets = omega (arith, c.requires.lent.sized.sets); answers = c.requires.lent.sized.answers; cursors = c.requires.lent.sized.cursors };
+      inside = λ n x. c.requires.lent.inside n (starts.rest n x);
+      targets = λ j h. c.requires.lent.inside _ (starts.inside _ (starts.first j h));
+      room = omega (arith, c.gather_lost-lost.ensures.counts, c.requires.lent.queues);
       counted = c.requires.counted ∙ sym c.gather_lost-lost.ensures.counts;
     }
 

@@ -11,16 +11,16 @@ pub returns-then-has : goal.returns-then-has
 returns-then-has c = record { spread = spread_none c.requires.lists; holds = λ x. true_T _ (sym c.if-has.ensures) }
 
 pub offset_bounds-queue-count : goal.offset_bounds-queue-count
-offset_bounds-queue-count c = omega (arith, spread_room c.args.place c.requires.same c.requires.room c.requires.lists (sym c.if-not-has.ensures) (sym c.if-has.ensures))
+offset_bounds-queue-count c = omega (arith, spread_room c.args.place c.requires.spacious.same c.requires.spacious.room c.requires.lists (sym c.if-not-has.ensures) (sym c.if-has.ensures))
 
 pub bounds-queue-count : goal.bounds-queue-count
-bounds-queue-count c = spread_room c.args.place c.requires.same c.requires.room c.requires.lists (sym c.if-not-has.ensures) (sym c.if-has.ensures)
+bounds-queue-count c = spread_room c.args.place c.requires.spacious.same c.requires.spacious.room c.requires.lists (sym c.if-not-has.ensures) (sym c.if-has.ensures)
 
 pub overflow_add-result : goal.overflow_add-result
-overflow_add-result c = omega (arith, spread_room c.args.place c.requires.same c.requires.room c.requires.lists (sym c.if-not-has.ensures) (sym c.if-has.ensures))
+overflow_add-result c = omega (arith, spread_room c.args.place c.requires.spacious.same c.requires.spacious.room c.requires.lists (sym c.if-not-has.ensures) (sym c.if-has.ensures))
 
 pub returns : goal.returns
 returns c = record {
-  spread = spread_one c.args.place c.requires.same c.requires.room c.requires.lists (sym c.if-not-has.ensures) (sym c.if-has.ensures) c.insert.ensures refl;
+  spread = spread_one c.args.place c.requires.spacious.same c.requires.spacious.room c.requires.lists (sym c.if-not-has.ensures) (sym c.if-has.ensures) c.insert.ensures refl;
   holds = λ x. inserted_in c.insert.ensures;
 }

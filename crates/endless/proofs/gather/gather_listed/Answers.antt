@@ -17,4 +17,4 @@ pub loop-place-preserved : goal.loop-place-preserved
 loop-place-preserved c = picking_more c.loop-place.invariant (omega (arith, c.requires.room)) c.take_wanted-count.ensures
 
 pub returns-clause-starts : goal.returns-clause-starts
-returns-clause-starts c = λ R. picking_all c.loop-place.invariant R (omega arith)
+returns-clause-starts c = λ R inside told. picking_all c.loop-place.invariant R (omega arith) inside (λ n. (told n).0) (λ n x. (told n).1)

@@ -1,9 +1,25 @@
-use Rattle.std.proofs.Common.{arith}
+use Rattle.std.proofs.lemmas.Iterator.{YieldsList-from_slice}
+use Rattle.std.proofs.lemmas.Iterator.Consumers.{YieldsList-from_copied}
+use Rattle.endless.proofs.MemberLists.{all_members, members_told, yields_members}
 use Rattle.endless.proofs.Picking.{told_in}
 use Rattle.endless.proofs.gather.gather_targets.Goals as goal
 
-pub gather_heaviest_of-requires-clause-inside : goal.gather_heaviest_of-requires-clause-inside
-gather_heaviest_of-requires-clause-inside c = λ j h. c.requires.inside _ (told_in c.args.list.now _ c.requires.told j h)
+pub gather_heaviest-requires-clause-inside : goal.gather_heaviest-requires-clause-inside
+gather_heaviest-requires-clause-inside c =
+    let list = c.in-Some.list.now in
+    (list, (YieldsList-from_copied (YieldsList-from_slice list cc)).runs, λ j h. c.requires.inside _ (c.requires.part _ (told_in list _ (c.requires.told _ c.in-Some.is) j h)))
 
-pub returns-else-list-eq0-clause-gathered : goal.returns-else-list-eq0-clause-gathered
-returns-else-list-eq0-clause-gathered c = c.gather_heaviest_of.ensures.gathered (omega arith) c.requires.told
+pub gather_heaviest-requires-in-None-clause-inside : goal.gather_heaviest-requires-in-None-clause-inside
+gather_heaviest-requires-in-None-clause-inside c =
+    let own = c.args.own.now in
+    (all_members own, (yields_members c.iter-places.ensures.set c.iter-places.ensures.from).runs, λ j h. c.requires.inside _ (told_in (all_members own) _ (members_told own) j h))
+
+pub returns-in-Some-clause-gathered : goal.returns-in-Some-clause-gathered
+returns-in-Some-clause-gathered c =
+    let list = c.in-Some.list.now in
+    c.gather_heaviest.ensures.gathered list (YieldsList-from_copied (YieldsList-from_slice list cc)).runs (λ n. (c.requires.told _ c.in-Some.is n).0)
+
+pub returns-in-None-clause-gathered : goal.returns-in-None-clause-gathered
+returns-in-None-clause-gathered c =
+    let own = c.args.own.now in
+    c.gather_heaviest-in-None.ensures.gathered (all_members own) (yields_members c.iter-places.ensures.set c.iter-places.ensures.from).runs (λ n x. (members_told own n).0 (c.requires.part n x))
