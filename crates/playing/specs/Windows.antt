@@ -6,7 +6,7 @@ use Rattle.endless.specs.Games.{Among}
 use Rattle.endless.specs.Graph.{times}
 
 -- the last n of a list, or all where there are fewer
-abbrev pub latest : ℕ → List ℕ → List ℕ
+abbrev pub latest : {A : Type 0} → ℕ → List A → List A
 latest n xs = drop (length xs - n) xs
 
 -- the window is what is left of these weights, which came one after another: the last 1,000
