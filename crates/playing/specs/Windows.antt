@@ -32,6 +32,7 @@ Light weights = (k : ℕ) → 256 ≤ k → times k weights ≡ 0
 pub record Kept {A : Type 0} (weights : VecDeque ℕ A) (counts : List ℕ) : Type 0 where
   pub roomy : 1000 ≤ deque_capacity weights
   pub few : deque_len weights ≤ 1000
+  pub kinds : length counts ≡ 256
   pub tells : Tells counts (deque_items weights)
   pub light : Light (deque_items weights)
 

@@ -28,7 +28,7 @@ impl Model for Window {
 
     ghost view = { λ w. w.weights.items };
 
-    ghost invariant = { λ w. Kept w.weights w.counts.times };
+    ghost invariant = { λ w. Kept w.weights w.counts };
 }
 
 impl Window {

@@ -1,5 +1,5 @@
 //! A play goes on, and choices are taken back.
-ghost use Rattle.std.specs.Prelude.{◌≡◌, ◌-◌, ◌<◌, ◌≤◌, length, take, IfOk, OnOk};
+ghost use Rattle.std.specs.Prelude.{◌≡◌, ◌-◌, ◌<◌, ◌≤◌, length, take, IfOk, OnOk, OnErr};
 ghost use Rattle.std.specs.VecDeque.{deque_len};
 ghost use Rattle.playing.specs.Windows.{HeaviestIs, latest};
 ghost use Rattle.playing.specs.Trails.{Started, Came, Chosen, Back, LeftAt};
@@ -13,7 +13,7 @@ use std::collections::VecDeque;
 impl Trail {
     /// A play that stands at its first place, which has this weight.
     pub fn start(heap: Global, weight: u8) -> Result<Trail, AllocError>
-        ensures { IfOk result (λ t. Started weight t) }
+        ensures { IfOk result (Started weight) }
     {
         let mut weights = VecDeque::new(heap);
         let mut window = Window::new(heap)?;
@@ -29,7 +29,9 @@ impl Trail {
 
     /// A move to a place of this weight.
     pub fn come(&mut self, weight: u8) -> Result<(), AllocError>
-        ensures { OnOk result (Came weight self.old self.new) }
+        ensures came { OnOk result (Came weight self.old self.new) }
+        ensures failed { OnErr result (self.new.made ≡ self.old.made) }
+        ensures choices { self.new.choices ≡ self.old.choices }
     {
         make_room(&mut self.weights, MOST_KEPT);
         self.weights.push_back(weight)?;
@@ -41,6 +43,7 @@ impl Trail {
     /// A choice is about to be made at this place.
     pub fn choose(&mut self, place: u32) -> Result<(), AllocError>
         ensures weights { self.new.weights ≡ self.old.weights }
+        ensures made { self.new.made ≡ self.old.made }
         ensures chosen { OnOk result (Chosen place self.old self.new) }
     {
         make_room(&mut self.choices, MOST_CHOICES);
@@ -53,7 +56,9 @@ impl Trail {
     /// where no choice is left to take back, or where too much came after it
     /// to know the last 1,000 weights of before: such a choice is forgotten.
     pub fn back(&mut self, heap: Global) -> Result<Option<u32>, AllocError>
-        ensures { IfOk result (λ o. Back self.old self.new o) }
+        ensures back { IfOk result (Back self.old self.new) }
+        ensures failed { OnErr result (self.new.weights ≡ self.old.weights) }
+        ensures made { OnErr result (self.new.made ≡ self.old.made) }
     {
         let Some(choice) = self.choices.pop_back() else {
             return Ok(None);
@@ -89,6 +94,8 @@ impl Trail {
     /// Only the first weights are left, so many of them.
     fn cut(&mut self, heap: Global, left: usize) -> Result<(), AllocError>
         ensures kept { OnOk result (self.new.weights ≡ take left self.old.weights) }
+        ensures failed { OnErr result (self.new.weights ≡ self.old.weights) }
+        ensures made { self.new.made ≡ self.old.made }
         ensures choices { self.new.choices ≡ self.old.choices }
     {
         let mut window = Window::new(heap)?;

@@ -1,5 +1,5 @@
 use Rattle.std.specs.Prelude.{All}
-use Rattle.std.proofs.Common.{◌≡◌, ◌<◌, length, ap, sym, subst, arith}
+use Rattle.std.proofs.Common.{◌<◌, length, ap, sym, subst, arith}
 use Rattle.endless.specs.Graph.{moves}
 use Rattle.playing.proofs.Boards.{some_moves, moves_within}
 use Rattle.playing.proofs.board.Board.moves.Goals as goal

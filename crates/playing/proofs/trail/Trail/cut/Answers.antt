@@ -1,4 +1,4 @@
-use Rattle.std.proofs.Common.{◌++◌, ap, ◌∙◌, arith, rules}
+use Rattle.std.proofs.Common.{◌++◌, ap, ◌∙◌, rules}
 use Rattle.playing.specs.Windows.{latest}
 use Rattle.playing.proofs.Windows.{latest-latest_append}
 use Rattle.playing.proofs.trail.Trail.cut.Goals as goal
