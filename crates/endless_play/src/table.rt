@@ -1,5 +1,5 @@
 //! What a play is played on.
-ghost use Rattle.std.specs.Prelude.{◌<◌, length};
+ghost use Rattle.std.specs.Prelude.{◌<◌, ◌↔◌, length, IsTrue};
 
 use endless::side::Side;
 use playing::Board;
@@ -28,10 +28,13 @@ impl<'a> Model for Table<'a> {
 }
 
 impl<'a> Table<'a> {
+    ghost use Rattle.endless_play.specs.Settings.{HasChoice};
+
     /// Whether the person chooses at a place: it is his move, and there is
     /// more than one.
     pub(crate) fn has_choice(&self, place: u32) -> bool
         requires { place < length self.now.game }
+        ensures { IsTrue result ↔ HasChoice self.now place }
     {
         self.board.whose(place) != self.side && self.board.moves(place).len() > 1
     }

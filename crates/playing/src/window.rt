@@ -46,7 +46,7 @@ impl Window {
     pub fn push(&mut self, weight: u8)
         ensures { Holds self.new (self.old ++ weight ∷ []) }
     {
-        if self.weights.len() < MOST {
+        if self.len() < MOST {
             self.add(weight);
         } else {
             self.exchange(weight);

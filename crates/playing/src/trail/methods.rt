@@ -45,6 +45,7 @@ impl Trail {
         ensures weights { self.new.weights ≡ self.old.weights }
         ensures made { self.new.made ≡ self.old.made }
         ensures chosen { OnOk result (Chosen place self.old self.new) }
+        ensures failed { OnErr result (self.new.choices ≡ latest 999 self.old.choices) }
     {
         make_room(&mut self.choices, MOST_CHOICES);
         let made = self.made;
@@ -57,6 +58,7 @@ impl Trail {
     /// to know the last 1,000 weights of before: such a choice is forgotten.
     pub fn back(&mut self, heap: Global) -> Result<Option<u32>, AllocError>
         ensures back { IfOk result (Back self.old self.new) }
+        ensures choices { self.new.choices ≡ take (length self.old.choices - 1) self.old.choices }
         ensures failed { OnErr result (self.new.weights ≡ self.old.weights) }
         ensures made { OnErr result (self.new.made ≡ self.old.made) }
     {
