@@ -33,21 +33,21 @@ pub struct Play<'a> {
     alone: u64,
 }
 
-// Clauses see what it is played on, the place, and what it has come through.
+// Clauses see all of it.
 impl<'a> Model for Play<'a> {
     ghost use Rattle.std.specs.Prelude.{◌<◌, length, All};
     ghost use Rattle.endless_play.specs.Settings.{Standing};
 
     ghost Value = { Standing };
 
-    ghost view = { λ p. record { table = p.table; place = p.place; past = p.trail } };
+    ghost view = { λ p. record { table = p.table; place = p.place; past = p.trail; alone = p.alone } };
 
     ghost invariant = { λ p. (p.place < length p.table.game) × All (λ c. c.place < length p.table.game) p.trail.choices };
 }
 
 impl<'a> Play<'a> {
     ghost use Rattle.endless_play.specs.Settings.{Begins, Noted, Goes, Returns};
-    ghost use Rattle.endless_play.specs.Turns.{Within, Makes};
+    ghost use Rattle.endless_play.specs.Turns.{Within, Unasked, Makes};
 
     /// A play that stands at its first place.
     pub(crate) fn new(heap: Global, table: Table<'a>, place: u32) -> Result<Play<'a>, AllocError>
@@ -79,7 +79,8 @@ impl<'a> Play<'a> {
     /// What comes next: the person is asked where there is a choice; elsewhere
     /// the play goes on, for a number of moves. `None` where it ends.
     fn next_turn<R: BufRead>(&self, rt: &HostRuntime, input: &mut R) -> Result<Option<Turn>, Fault>
-        ensures { IfOk result (λ t. IfSome t (Within self.now)) }
+        ensures within { IfOk result (λ t. IfSome t (Within self.now)) }
+        ensures unasked { IfOk result (Unasked self.now) }
     {
         let table = &self.table;
         show::place(rt, table, self.place)?;

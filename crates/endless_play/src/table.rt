@@ -15,14 +15,14 @@ pub struct Table<'a> {
     pub moves: u64,
 }
 
-// Clauses see the game, the answer and the program's side.
+// Clauses see all but the names.
 impl<'a> Model for Table<'a> {
     ghost use Rattle.endless_play.specs.Settings.{Setting};
     ghost use Rattle.playing.specs.Boards.{Answered};
 
     ghost Value = { Setting };
 
-    ghost view = { λ t. record { game = t.board.game; answer = t.board.answer; side = t.side } };
+    ghost view = { λ t. record { game = t.board.game; answer = t.board.answer; side = t.side; most_alone = t.moves } };
 
     ghost invariant = { λ t. Answered t.board.game t.board.answer };
 }
