@@ -1,6 +1,4 @@
 //! A game to play, from its drawing to the end of the play.
-ghost use Rattle.std.specs.Prelude.{IfSome, IfOk};
-ghost use Rattle.endless.specs.Games.{Game, Reads};
 ghost use Rattle.playing.specs.Boards.{Answered};
 
 use crate::args::Job;
@@ -9,8 +7,8 @@ use crate::play::Play;
 use crate::table::Table;
 use crate::{input, show, wish};
 use playing::Board;
-use playing::board::solve;
-use std::alloc::{AllocError, Global};
+use playing::board::solve_in;
+use std::alloc::AllocError;
 use std::io;
 use std::io::BufReader;
 
@@ -20,29 +18,15 @@ pub(crate) fn run(rt: &HostRuntime, job: Job) -> Result<(), Fault> {
     let drawing = input::drawing(rt, job.file.as_str())?;
     let words = drawing.words.as_slice();
     let places = words.first().copied().unwrap_or(0) as usize;
-    let mut answer = vec![in heap; 0; 2 * places]?;
-    let Some(answer) = solved(heap, words, answer.as_mut_slice())? else {
+    let Some(answer) = solve_in(heap, words)? else {
         return Err(Fault::NoGame { file: job.file });
     };
+    let answer = answer.as_slice();
     let mut starts = vec![in heap; [0, 0]; places]?;
     let Some(board) = Board::new(words, answer, starts.as_mut_slice()) else {
         return Err(Fault::NoGame { file: job.file });
     };
     start(rt, job, board, drawing.names.as_slice())
-}
-
-/// Solves the game. What the solver is lent is given back before anything
-/// else is made.
-fn solved<'a>(
-    heap: Global,
-    words: &[u32],
-    answer: &'a mut [u32],
-) -> Result<Option<&'a [u32]>, AllocError>
-    ensures { IfOk result (λ o. IfSome o (λ a. (g : Game) × (Reads words.now g × Answered g a.now))) }
-{
-    let lent = words.len().saturating_mul(4).saturating_add(65536);
-    let mut work = vec![in heap; 0; lent]?;
-    Ok(solve(words, answer, work.as_mut_slice()))
 }
 
 /// Plays from the place that was asked for, or from the first.

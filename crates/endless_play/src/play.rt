@@ -1,5 +1,5 @@
 //! The play: the program's moves and the person's, one after another.
-ghost use Rattle.std.specs.Prelude.{◌≡◌, ◌<◌, length, IfOk, IfSome, OnOk};
+ghost use Rattle.std.specs.Prelude.{◌<◌, length, IfOk, IfSome, OnOk};
 ghost use Rattle.endless.specs.Graph.{moves};
 ghost use Rattle.endless_play.specs.Wishes.{InList};
 
@@ -33,26 +33,26 @@ pub struct Play<'a> {
     alone: u64,
 }
 
-// Clauses see what it is played on, and the place.
+// Clauses see all of it.
 impl<'a> Model for Play<'a> {
-    ghost use Rattle.std.specs.Prelude.{◌<◌, length};
+    ghost use Rattle.std.specs.Prelude.{◌<◌, length, All};
     ghost use Rattle.endless_play.specs.Settings.{Standing};
 
     ghost Value = { Standing };
 
-    ghost view = { λ p. record { table = p.table; place = p.place } };
+    ghost view = { λ p. record { table = p.table; place = p.place; past = p.trail; alone = p.alone } };
 
-    ghost invariant = { λ p. p.place < length p.table.game };
+    ghost invariant = { λ p. (p.place < length p.table.game) × All (λ c. c.place < length p.table.game) p.trail.choices };
 }
 
 impl<'a> Play<'a> {
-    ghost use Rattle.endless_play.specs.Settings.{Goes};
-    ghost use Rattle.endless_play.specs.Turns.{Within};
+    ghost use Rattle.endless_play.specs.Settings.{Begins, Noted, Goes, Returns};
+    ghost use Rattle.endless_play.specs.Turns.{Within, Unasked, Makes};
 
     /// A play that stands at its first place.
     pub(crate) fn new(heap: Global, table: Table<'a>, place: u32) -> Result<Play<'a>, AllocError>
         requires { place < length table.game }
-        ensures { IfOk result (λ p. p ≡ record { table = table.entry; place = place }) }
+        ensures { IfOk result (Begins table.entry place) }
     {
         let trail = Trail::start(heap, table.board.weight(place))?;
         Ok(Play {
@@ -79,7 +79,8 @@ impl<'a> Play<'a> {
     /// What comes next: the person is asked where there is a choice; elsewhere
     /// the play goes on, for a number of moves. `None` where it ends.
     fn next_turn<R: BufRead>(&self, rt: &HostRuntime, input: &mut R) -> Result<Option<Turn>, Fault>
-        ensures { IfOk result (λ t. IfSome t (Within self.now)) }
+        ensures within { IfOk result (λ t. IfSome t (Within self.now)) }
+        ensures unasked { IfOk result (Unasked self.now) }
     {
         let table = &self.table;
         show::place(rt, table, self.place)?;
@@ -124,23 +125,29 @@ impl<'a> Play<'a> {
     /// Makes the turn.
     fn make(&mut self, rt: &HostRuntime, turn: Turn) -> Result<(), Fault>
         requires { Within self.old turn }
+        ensures { OnOk result (Makes self.old self.new turn) }
     {
         match turn {
             Turn::Move(choice) => {
-                let table = &self.table;
-                if table.has_choice(self.place) {
-                    self.trail.choose(self.place)?;
-                    self.alone = 0;
-                } else {
-                    self.alone = self.alone.saturating_add(1);
-                }
+                self.note()?;
                 self.go(rt, choice)
             }
-            Turn::Back => {
-                self.alone = 0;
-                self.back(rt)
-            }
+            Turn::Back => self.back(rt),
         }
+    }
+
+    /// Before a move: keeps the place where the person chooses there.
+    fn note(&mut self) -> Result<(), AllocError>
+        ensures { OnOk result (Noted self.old self.new) }
+    {
+        let table = &self.table;
+        if table.has_choice(self.place) {
+            self.trail.choose(self.place)?;
+            self.alone = 0;
+        } else {
+            self.alone = self.alone.saturating_add(1);
+        }
+        Ok(())
     }
 
     /// Makes a move, and tells it.
@@ -159,17 +166,18 @@ impl<'a> Play<'a> {
 
     /// Takes the last choice back, to the place where it was made; the play
     /// stays where it is where none can be taken back.
-    fn back(&mut self, rt: &HostRuntime) -> Result<(), Fault> {
+    fn back(&mut self, rt: &HostRuntime) -> Result<(), Fault>
+        ensures { OnOk result (Returns self.old self.new) }
+    {
+        self.alone = 0;
         let before = self.trail.made();
-        let table = &self.table;
-        let places = table.board.len();
         match self.trail.back(rt.alloc())? {
-            Some(to) if to < places => {
-                let taken = before.saturating_sub(self.trail.made());
+            Some(place) => {
+                self.place = place;
+                let taken = before - self.trail.made();
                 println!(rt; "back to before your last choice; moves taken back: {taken}")?;
-                self.place = to;
             }
-            _ => println!(rt; "no choice of yours is left that can be taken back")?,
+            None => println!(rt; "no choice of yours is left that can be taken back")?,
         }
         Ok(())
     }

@@ -1,5 +1,5 @@
 //! What a play is played on.
-ghost use Rattle.std.specs.Prelude.{◌<◌, length};
+ghost use Rattle.std.specs.Prelude.{◌<◌, ◌↔◌, length, IsTrue};
 
 use endless::side::Side;
 use playing::Board;
@@ -15,23 +15,26 @@ pub struct Table<'a> {
     pub moves: u64,
 }
 
-// Clauses see the game, the answer and the program's side.
+// Clauses see all but the names.
 impl<'a> Model for Table<'a> {
     ghost use Rattle.endless_play.specs.Settings.{Setting};
     ghost use Rattle.playing.specs.Boards.{Answered};
 
     ghost Value = { Setting };
 
-    ghost view = { λ t. record { game = t.board.game; answer = t.board.answer; side = t.side } };
+    ghost view = { λ t. record { game = t.board.game; answer = t.board.answer; side = t.side; most_alone = t.moves } };
 
     ghost invariant = { λ t. Answered t.board.game t.board.answer };
 }
 
 impl<'a> Table<'a> {
+    ghost use Rattle.endless_play.specs.Settings.{HasChoice};
+
     /// Whether the person chooses at a place: it is his move, and there is
     /// more than one.
     pub(crate) fn has_choice(&self, place: u32) -> bool
         requires { place < length self.now.game }
+        ensures { IsTrue result ↔ HasChoice self.now place }
     {
         self.board.whose(place) != self.side && self.board.moves(place).len() > 1
     }

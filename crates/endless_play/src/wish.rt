@@ -48,7 +48,7 @@ impl fmt::Display for NoWish {
 
 /// What the line asks for at a place with these moves: a command where it
 /// begins with a colon, else a name, else a number of the list.
-pub fn understand(names: &[String], moves: &[u32], line: &str) -> Result<Wish, NoWish>
+pub(crate) fn understand(names: &[String], moves: &[u32], line: &str) -> Result<Wish, NoWish>
     ensures { IfOk result (InList (length moves.now)) }
 {
     let text = line.trim_ascii();
@@ -81,7 +81,7 @@ fn named(names: &[String], moves: &[u32], text: &str) -> Option<usize>
 }
 
 /// Whether the text is this name, bare or in double quotes.
-pub fn is_named(name: &str, text: &str) -> bool {
+pub(crate) fn is_named(name: &str, text: &str) -> bool {
     name == text || is_quoted(name, text)
 }
 
@@ -115,6 +115,6 @@ fn numbered(many: usize, text: &str) -> Result<Wish, NoWish>
 }
 
 /// The name of a place.
-pub fn name(names: &[String], place: u32) -> &str {
+pub(crate) fn name(names: &[String], place: u32) -> &str {
     names.get(place as usize).map_or("?", |name| name.as_str())
 }

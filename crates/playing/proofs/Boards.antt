@@ -1,10 +1,13 @@
 -- What a solved game says of its places, and of a step.
-use Rattle.std.specs.Prelude.{All, IfSome}
-use Rattle.std.proofs.Common.{◌≡◌, ℕ, zero, suc, ◌<◌, List, [], ◌∷◌, length, get_or, Some, None, Option, sym, refl, ◌∙◌, subst, arith}
+use Rattle.std.specs.Prelude.{◌+◌, ◌*◌, ◌≤◌, All, IfSome, MatchResult, Ok, Err, Result}
+use Rattle.std.proofs.Common.{◌≡◌, ℕ, zero, suc, ◌<◌, List, [], ◌∷◌, length, get_or, Some, None, Option, sym, refl, ap, ◌∙◌, subst, arith}
 use Rattle.endless.specs.Games.{Game, Reads, Among, first, later, May}
 use Rattle.endless.specs.Graph.{moves}
 use Rattle.endless.specs.Says.{WinsFrom, goes}
 use Rattle.endless.specs.Sides.{number}
+use Rattle.endless.specs.Promises.{SolvedPost}
+use Rattle.endless.specs.declared.refusal.Refusal.{Refusal}
+use Rattle.endless.specs.declared.refusal.Refusal.TheVariants.{Few, NoGame, NoPlace, OutFull}
 use Rattle.endless.specs.declared.side.Side.{Side}
 use Rattle.endless.specs.declared.side.Side.TheVariants.{Even, Odd}
 use Rattle.endless.proofs.Among.{at_among}
@@ -32,6 +35,19 @@ pub answered_if : (s o : List ℕ) (r : Option Solution) → IfSome r (λ b. Rea
     → IfSome r (λ b. Reads s b.game × Answered b.game b.answer)
 answered_if s o None reads is solved = tt
 answered_if s o (Some b) reads is solved = (reads, answered_board b reads is solved)
+
+-- with as many words lent as the solver asks for, and an answer's room for each place, only words that are no game are refused
+pub solved_or_none : {s o o' : List ℕ} {lent : ℕ} (r : Result (Unit {0}) Refusal) → SolvedPost s lent o o' r → 65536 + 4 * length s ≤ lent → length o ≡ 2 * get_or s 0 0 → length o' ≡ length o
+    → MatchResult r (λ _. (g : Game) × (Reads s g × Answered g o')) (λ _. (g : Game) → Reads s g → ⊥)
+solved_or_none (Ok u) post enough room long =
+    let says = post.says in
+    (says.0, (says.1, record { room = subst (λ l. 2 * length says.0 ≤ l) (sym long) says.2; fair = says.3; even = says.4; odd = says.5 }))
+solved_or_none (Err NoGame) post enough room long = post.says.0
+solved_or_none (Err OutFull) post enough room long =
+    let says = post.says in
+    absurd (omega (arith, ap (λ l. get_or l 0 0) says.1.is, says.2, room))
+solved_or_none (Err Few) post enough room long = absurd (omega (arith, post.few.1 refl))
+solved_or_none (Err NoPlace) post enough room long = absurd post.says
 
 -- all moves of a place are places
 at_index : (xs : List ℕ) (k d : ℕ) → k < length xs → Among (get_or xs k d) xs

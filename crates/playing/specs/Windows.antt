@@ -6,7 +6,7 @@ use Rattle.endless.specs.Games.{Among}
 use Rattle.endless.specs.Graph.{times}
 
 -- the last n of a list, or all where there are fewer
-abbrev pub latest : ℕ → List ℕ → List ℕ
+abbrev pub latest : {A : Type 0} → ℕ → List A → List A
 latest n xs = drop (length xs - n) xs
 
 -- the window is what is left of these weights, which came one after another: the last 1,000
@@ -32,6 +32,7 @@ Light weights = (k : ℕ) → 256 ≤ k → times k weights ≡ 0
 pub record Kept {A : Type 0} (weights : VecDeque ℕ A) (counts : List ℕ) : Type 0 where
   pub roomy : 1000 ≤ deque_capacity weights
   pub few : deque_len weights ≤ 1000
+  pub kinds : length counts ≡ 256
   pub tells : Tells counts (deque_items weights)
   pub light : Light (deque_items weights)
 

@@ -1,5 +1,5 @@
 //! A solved game to play on.
-ghost use Rattle.std.specs.Prelude.{◌≡◌, ◌<◌, length, All, IfSome};
+ghost use Rattle.std.specs.Prelude.{◌≡◌, ◌<◌, length, All, IfOk, IfSome, MatchOption};
 ghost use Rattle.endless.specs.Games.{Game, Reads, whose, weight};
 ghost use Rattle.endless.specs.Graph.{moves};
 ghost use Rattle.endless.specs.Says.{side, goes};
@@ -11,6 +11,7 @@ use endless::graph::Places;
 use endless::positions::Halves;
 use endless::side::Side;
 use endless::{answer, is_game};
+use std::alloc::{AllocError, Global};
 use std::marker::Model;
 
 /// Solves the game that these words are: the answer, in the words that are
@@ -22,6 +23,23 @@ pub fn solve<'a>(words: &[u32], answer: &'a mut [u32], work: &mut [u32]) -> Opti
 {
     endless::solve(words, answer, work).ok()?;
     Some(answer)
+}
+
+/// Solves the game that these words are, on the heap: the answer, two words
+/// for each place. What the solver works in is gone again afterwards. `None`
+/// where the words are no game.
+pub fn solve_in(heap: Global, words: &[u32]) -> Result<Option<Vec<u32>>, AllocError>
+    ensures { IfOk result (λ o. MatchOption o ((g : Game) → Reads words.now g → ⊥) (λ a. (g : Game) × (Reads words.now g × Answered g a.items))) }
+{
+    if !is_game(words) {
+        return Ok(None);
+    }
+    let mut answer = vec![in heap; 0; 2 * words[0] as usize]?;
+    let mut work = vec![in heap; 0; 65536 + 4 * words.len()]?;
+    match endless::solve(words, answer.as_mut_slice(), work.as_mut_slice()) {
+        Ok(()) => Ok(Some(answer)),
+        Err(_) => Ok(None),
+    }
 }
 
 /// A game and its answer, with where each place's words start, so that what
@@ -123,5 +141,36 @@ impl<'a> Board<'a> {
         ensures { result ≡ goes self.now.answer place }
     {
         answer::goes_to(self.answer, PlaceId(place)).unwrap().0
+    }
+}
+
+#[cfg(test)]
+mod tests {
+    use super::*;
+    use std::test::Fail;
+
+    // 0 is side 0's, weight 1, to 1 or 2; 1 is side 1's, weight 2, to 0; 2 is
+    // side 1's, weight 3, to 0 or itself. Side 0 wins 0 and 1, by going from
+    // 0 to 1; side 1 wins 2, by staying there.
+    const THREE: [u32; 15] = [3, 0, 1, 2, 1, 2, 1, 2, 1, 0, 1, 3, 2, 0, 2];
+
+    #[test]
+    fn solves_a_game(rt: HostRuntime) -> Result<(), Fail> {
+        let answer = solve_in(rt.alloc(), &THREE)?.expect(&rt, "it is a game");
+        let answer = answer.as_slice();
+        assert_eq!(rt; answer.len(), 6);
+        assert_eq!(rt; (answer[0], answer[1]), (0, 1));
+        assert_eq!(rt; answer[2], 0);
+        assert_eq!(rt; (answer[4], answer[5]), (1, 2));
+        Ok(())
+    }
+
+    #[test]
+    fn solves_no_other_words(rt: HostRuntime) -> Result<(), Fail> {
+        assert!(rt; solve_in(rt.alloc(), &[])?.is_none());
+        assert!(rt; solve_in(rt.alloc(), &THREE[1..])?.is_none());
+        // It would take more words than there are.
+        assert!(rt; solve_in(rt.alloc(), &[u32::MAX])?.is_none());
+        Ok(())
     }
 }

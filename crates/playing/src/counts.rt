@@ -1,6 +1,8 @@
 //! How often each weight stands among some, as a count for each of the 256.
-ghost use Rattle.std.specs.Prelude.{◌≡◌, ◌+◌, ◌^◌, ◌<◌, length, slice_index, replicate};
+ghost use Rattle.std.specs.Prelude.{◌≡◌, ◌+◌, ◌^◌, ◌<◌, slice_index, replicate};
 ghost use Rattle.playing.specs.Windows.{more, less, GreatestIs};
+
+use std::marker::Model;
 
 /// How many weights there are.
 pub const KINDS: usize = 256;
@@ -8,39 +10,47 @@ pub const KINDS: usize = 256;
 /// How often each of the 256 weights stands among some.
 #[derive(Drop)]
 pub struct Counts {
-    pub times: [u32; KINDS],
-    ghost kinds: { length times ≡ 256 },
+    times: [u32; KINDS],
+}
+
+// Clauses see the 256 counts, the one of weight 0 first.
+impl Model for Counts {
+    ghost use Rattle.std.specs.Prelude.{ℕ, List};
+
+    ghost Value = { List ℕ };
+
+    ghost view = { λ c. c.times };
 }
 
 impl Counts {
     /// No weight stands there yet.
     pub fn new() -> Counts
-        ensures { result.times ≡ replicate 256 0 }
+        ensures { result ≡ replicate 256 0 }
     {
         Counts { times: [0; KINDS] }
     }
 
     /// Counts one more of this weight.
     pub fn add(&mut self, weight: u8)
-        requires { slice_index self.old.times weight + 1 < 2 ^ 32 }
-        ensures { self.new.times ≡ more weight self.old.times }
+        requires { slice_index self.old weight + 1 < 2 ^ 32 }
+        ensures { self.new ≡ more weight self.old }
     {
         self.times[usize::from(weight)] += 1;
     }
 
     /// Counts one less of this weight.
     pub fn remove(&mut self, weight: u8)
-        requires { 0 < slice_index self.old.times weight }
-        ensures { self.new.times ≡ less weight self.old.times }
+        requires { 0 < slice_index self.old weight }
+        ensures { self.new ≡ less weight self.old }
     {
         self.times[usize::from(weight)] -= 1;
     }
 
     /// Counts one less of one weight, and then one more of another.
     pub fn exchange(&mut self, old: u8, new: u8)
-        requires some { 0 < slice_index self.old.times old }
-        requires fits { slice_index self.old.times new + 1 < 2 ^ 32 }
-        ensures { self.new.times ≡ more new (less old self.old.times) }
+        requires some { 0 < slice_index self.old old }
+        requires fits { slice_index self.old new + 1 < 2 ^ 32 }
+        ensures { self.new ≡ more new (less old self.old) }
     {
         self.remove(old);
         self.add(new);
@@ -48,7 +58,7 @@ impl Counts {
 
     /// The greatest weight that is counted at least once.
     pub fn greatest(&self) -> Option<u8>
-        ensures { GreatestIs self.now.times result }
+        ensures { GreatestIs self.now result }
     {
         (0..=u8::MAX)
             .rev()

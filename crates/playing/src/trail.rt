@@ -1,11 +1,8 @@
 //! What a play has come through: how many moves were made, the weights of the
 //! places, and where a choice was made, so that it can be taken back.
-ghost use Rattle.std.specs.Prelude.{◌≤◌};
-ghost use Rattle.std.specs.VecDeque.{deque_len};
-ghost use Rattle.playing.specs.Windows.{Holds};
-
 use crate::window::Window;
 use std::collections::VecDeque;
+use std::marker::Model;
 
 mod methods;
 
@@ -30,7 +27,15 @@ pub struct Trail {
     window: Window,
     choices: VecDeque<Choice>,
     made: u64,
-    ghost few: { deque_len weights ≤ 65536 },
-    ghost holds: { Holds window weights.items },
-    ghost limited: { deque_len choices ≤ 1000 },
+}
+
+// Clauses see the weights, the choices and the number of moves.
+impl Model for Trail {
+    ghost use Rattle.playing.specs.Trails.{Past, Limited};
+
+    ghost Value = { Past };
+
+    ghost view = { λ t. record { weights = t.weights.items; choices = t.choices.items; made = t.made } };
+
+    ghost invariant = { λ t. Limited t.weights.items t.window t.choices.items };
 }

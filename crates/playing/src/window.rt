@@ -28,7 +28,7 @@ impl Model for Window {
 
     ghost view = { λ w. w.weights.items };
 
-    ghost invariant = { λ w. Kept w.weights w.counts.times };
+    ghost invariant = { λ w. Kept w.weights w.counts };
 }
 
 impl Window {
@@ -46,7 +46,7 @@ impl Window {
     pub fn push(&mut self, weight: u8)
         ensures { Holds self.new (self.old ++ weight ∷ []) }
     {
-        if self.weights.len() < MOST {
+        if self.len() < MOST {
             self.add(weight);
         } else {
             self.exchange(weight);

@@ -8,8 +8,7 @@
 //! 1,000 places it says nothing: a window need not be a round, and what weighs
 //! most in it may be of either kind. So the windows are counted, by the kind of
 //! their heaviest weight, and no number of either kind would be a fault.
-ghost use Rattle.std.specs.Prelude.{◌<◌, length, IfSome, IfOk};
-ghost use Rattle.endless.specs.Games.{Game, Reads};
+ghost use Rattle.std.specs.Prelude.{◌<◌, length, IfOk};
 ghost use Rattle.endless.specs.Graph.{moves};
 ghost use Rattle.playing.specs.Boards.{Answered};
 
@@ -17,7 +16,7 @@ use crate::fault::Fault;
 use crate::{input, report};
 use draws::Random;
 use endless::side::Side;
-use playing::board::solve;
+use playing::board::solve_in;
 use playing::{Board, Trail, steps};
 use std::alloc::{AllocError, Global};
 use std::marker::Model;
@@ -95,10 +94,10 @@ pub(crate) fn run(rt: &HostRuntime, file: &str, count: u64) -> Result<(), Fault>
     let drawing = input::drawing(rt, file)?;
     let words = drawing.words.as_slice();
     let places = drawing.names.len();
-    let mut answer = vec![in heap; 0; places.saturating_mul(2)]?;
-    let Some(answer) = solved(heap, words, answer.as_mut_slice())? else {
+    let Some(answer) = solve_in(heap, words)? else {
         return Err(Fault::NoGame);
     };
+    let answer = answer.as_slice();
     let mut starts = vec![in heap; [0, 0]; places]?;
     let Some(board) = Board::new(words, answer, starts.as_mut_slice()) else {
         return Err(Fault::NoGame);
@@ -112,19 +111,6 @@ pub(crate) fn run(rt: &HostRuntime, file: &str, count: u64) -> Result<(), Fault>
         play.go()?;
     }
     report::end(rt, &play)
-}
-
-/// Solves the game, with lent words that are gone again afterwards.
-fn solved<'a>(
-    heap: Global,
-    words: &[u32],
-    answer: &'a mut [u32],
-) -> Result<Option<&'a [u32]>, AllocError>
-    ensures { IfOk result (λ o. IfSome o (λ a. (g : Game) × (Reads words.now g × Answered g a.now))) }
-{
-    let lent = words.len().saturating_mul(4).saturating_add(65536);
-    let mut work = vec![in heap; 0; lent]?;
-    Ok(solve(words, answer, work.as_mut_slice()))
 }
 
 impl<'a> Play<'a> {

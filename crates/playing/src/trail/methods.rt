@@ -1,8 +1,8 @@
 //! A play goes on, and choices are taken back.
-ghost use Rattle.std.specs.Prelude.{◌≡◌, ◌<◌, length, take, IfOk, OnOk};
+ghost use Rattle.std.specs.Prelude.{◌≡◌, ◌-◌, ◌<◌, ◌≤◌, length, take, IfOk, OnOk, OnErr};
 ghost use Rattle.std.specs.VecDeque.{deque_len};
 ghost use Rattle.playing.specs.Windows.{HeaviestIs, latest};
-ghost use Rattle.playing.specs.Trails.{Started, Came, Chosen, Back, LeftAt, latest_choices};
+ghost use Rattle.playing.specs.Trails.{Started, Came, Chosen, Back, LeftAt};
 
 use crate::trail::{Choice, MOST_CHOICES, MOST_KEPT, Trail};
 use crate::window;
@@ -13,7 +13,7 @@ use std::collections::VecDeque;
 impl Trail {
     /// A play that stands at its first place, which has this weight.
     pub fn start(heap: Global, weight: u8) -> Result<Trail, AllocError>
-        ensures { IfOk result (λ t. Started weight t) }
+        ensures { IfOk result (Started weight) }
     {
         let mut weights = VecDeque::new(heap);
         let mut window = Window::new(heap)?;
@@ -29,55 +29,38 @@ impl Trail {
 
     /// A move to a place of this weight.
     pub fn come(&mut self, weight: u8) -> Result<(), AllocError>
-        ensures { OnOk result (Came weight self.old self.new) }
+        ensures came { OnOk result (Came weight self.old self.new) }
+        ensures failed { OnErr result (self.new.made ≡ self.old.made) }
+        ensures choices { self.new.choices ≡ self.old.choices }
     {
-        self.make_room();
+        make_room(&mut self.weights, MOST_KEPT);
         self.weights.push_back(weight)?;
         self.window.push(weight);
         self.made = self.made.saturating_add(1);
         Ok(())
     }
 
-    /// Forgets the oldest weight where as many are kept as may be.
-    fn make_room(&mut self)
-        ensures room { deque_len self.new.weights < 65536 }
-        ensures kept { self.new.weights.items ≡ latest 65535 self.old.weights.items }
-        ensures choices { self.new.choices ≡ self.old.choices }
-        ensures count { self.new.made ≡ self.old.made }
-    {
-        if self.weights.len() >= MOST_KEPT {
-            let _ = self.weights.pop_front();
-        }
-    }
-
     /// A choice is about to be made at this place.
     pub fn choose(&mut self, place: u32) -> Result<(), AllocError>
-        ensures weights { self.new.weights.items ≡ self.old.weights.items }
+        ensures weights { self.new.weights ≡ self.old.weights }
+        ensures made { self.new.made ≡ self.old.made }
         ensures chosen { OnOk result (Chosen place self.old self.new) }
+        ensures failed { OnErr result (self.new.choices ≡ latest 999 self.old.choices) }
     {
-        self.make_choice_room();
+        make_room(&mut self.choices, MOST_CHOICES);
         let made = self.made;
         self.choices.push_back(Choice { place, made })?;
         Ok(())
-    }
-
-    /// Forgets the oldest choice where as many are kept as may be.
-    fn make_choice_room(&mut self)
-        ensures room { deque_len self.new.choices < 1000 }
-        ensures kept { self.new.choices.items ≡ latest_choices 999 self.old.choices.items }
-        ensures weights { self.new.weights ≡ self.old.weights }
-        ensures count { self.new.made ≡ self.old.made }
-    {
-        if self.choices.len() >= MOST_CHOICES {
-            let _ = self.choices.pop_front();
-        }
     }
 
     /// Back to before the last choice: the place where it was made. `None`
     /// where no choice is left to take back, or where too much came after it
     /// to know the last 1,000 weights of before: such a choice is forgotten.
     pub fn back(&mut self, heap: Global) -> Result<Option<u32>, AllocError>
-        ensures { IfOk result (λ o. Back self.old self.new o) }
+        ensures back { IfOk result (Back self.old self.new) }
+        ensures choices { self.new.choices ≡ take (length self.old.choices - 1) self.old.choices }
+        ensures failed { OnErr result (self.new.weights ≡ self.old.weights) }
+        ensures made { OnErr result (self.new.made ≡ self.old.made) }
     {
         let Some(choice) = self.choices.pop_back() else {
             return Ok(None);
@@ -93,7 +76,7 @@ impl Trail {
     /// How many weights are left when so many moves were made, if these are
     /// all or at least 1,000.
     fn left_at(&self, made: u64) -> Option<usize>
-        ensures { LeftAt (deque_len self.now.weights) self.now.made made result }
+        ensures { LeftAt (length self.now.weights) self.now.made made result }
     {
         let kept = self.weights.len() as u64;
         if made > self.made {
@@ -112,7 +95,9 @@ impl Trail {
 
     /// Only the first weights are left, so many of them.
     fn cut(&mut self, heap: Global, left: usize) -> Result<(), AllocError>
-        ensures kept { OnOk result (self.new.weights.items ≡ take left self.old.weights.items) }
+        ensures kept { OnOk result (self.new.weights ≡ take left self.old.weights) }
+        ensures failed { OnErr result (self.new.weights ≡ self.old.weights) }
+        ensures made { self.new.made ≡ self.old.made }
         ensures choices { self.new.choices ≡ self.old.choices }
     {
         let mut window = Window::new(heap)?;
@@ -133,7 +118,7 @@ impl Trail {
 
     /// How many places the window is over.
     pub fn len(&self) -> usize
-        ensures { result ≡ length (latest 1000 self.now.weights.items) }
+        ensures { result ≡ length (latest 1000 self.now.weights) }
     {
         self.window.len()
     }
@@ -141,8 +126,20 @@ impl Trail {
     /// The heaviest weight among the last 1,000 places, or all where these
     /// are fewer.
     pub fn heaviest(&self) -> Option<u8>
-        ensures { HeaviestIs (latest 1000 self.now.weights.items) result }
+        ensures { HeaviestIs (latest 1000 self.now.weights) result }
     {
         self.window.heaviest()
+    }
+}
+
+/// Forgets the oldest where as many are kept as may be.
+fn make_room<T: Drop>(kept: &mut VecDeque<T>, most: usize)
+    requires some { 0 < most }
+    requires few { deque_len kept.old ≤ most }
+    ensures room { deque_len kept.new < most }
+    ensures kept { kept.new.items ≡ latest (most - 1) kept.old.items }
+{
+    if kept.len() >= most {
+        let _ = kept.pop_front();
     }
 }

@@ -1,4 +1,5 @@
-use Rattle.std.proofs.Common.{deque_items, length, ap, arith}
+use Rattle.std.proofs.Common.{deque_items, length, ap, ◌∙◌, arith}
+use Rattle.std.proofs.lemmas.List.{length-set}
 use Rattle.endless.proofs.Sources.{times_le}
 use Rattle.playing.proofs.Windows.{light_push, tells_push}
 use Rattle.playing.proofs.window.Window.add.Goals as goal
@@ -14,6 +15,7 @@ invariant_of-self c =
     record {
       roomy = omega (arith, c.self.invariant.roomy, c.push_back_reserved.ensures.capacity);
       few = omega (arith, c.push_back_reserved.ensures.len, shorter);
-      tells = rw (c.push_back_reserved.ensures.items, c.add.ensures) (tells_push weights c.args.weight (omega arith) w.counts.times w.counts.kinds c.self.invariant.tells);
+      kinds = ap length c.add.ensures ∙ length-set w.counts c.args.weight _ ∙ c.self.invariant.kinds;
+      tells = rw (c.push_back_reserved.ensures.items, c.add.ensures) (tells_push weights c.args.weight (omega arith) w.counts c.self.invariant.kinds c.self.invariant.tells);
       light = rw c.push_back_reserved.ensures.items (light_push weights c.args.weight (omega arith) c.self.invariant.light);
     }

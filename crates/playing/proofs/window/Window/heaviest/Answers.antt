@@ -7,4 +7,4 @@ pub returns : goal.returns
 returns c =
     let w = c.self.inside in
     subst (λ l. HeaviestIs l c.greatest.result) c.self.view_is
-    (heaviest_told (deque_items w.weights) w.counts.times w.counts.kinds c.self.invariant.tells c.self.invariant.light c.greatest.result c.greatest.ensures)
+    (heaviest_told (deque_items w.weights) w.counts c.self.invariant.kinds c.self.invariant.tells c.self.invariant.light c.greatest.result c.greatest.ensures)
