@@ -165,10 +165,7 @@ pub fn find_start(
         *order = make_order(graph, own, size, spare, queue, cursors, effort);
     }
     order.kept = order.kept.min(spare.len());
-    order.at = first_left(own, &spare[0..order.kept], order.at);
-    if order.at < order.kept {
-        Some(spare[order.at])
-    } else {
-        None
-    }
+    let kept = &spare[0..order.kept];
+    order.at = first_left(own, kept, order.at);
+    kept.get(order.at).copied()
 }
