@@ -1,5 +1,5 @@
 -- Looking at an answer: the places given to a side, and what a flaw of its plan there says of the answer.
-use Rattle.std.proofs.Common.{◌≡◌, ℕ, ◌*◌, ◌%◌, ◌<◌, ◌≤◌, ltb, ◌⊎◌, ◌↔◌, List, length, get_or, MatchOption, Option, Some, None, Ok, Err, sym, refl, ap, ◌∙◌, subst, inl, inr, arith}
+use Rattle.std.proofs.Common.{◌≡◌, ℕ, ◌*◌, ◌%◌, ◌<◌, ◌≤◌, ltb, ◌⊎◌, ◌↔◌, List, length, MatchOption, Option, Some, None, Ok, Err, sym, refl, ap, ◌∙◌, subst, inl, inr, arith}
 use Rattle.std.proofs.lemmas.Bool.{cases_eq}
 use Rattle.endless.specs.Games.{Game, Reads}
 use Rattle.endless.specs.Says.{WinsFrom, side, goes}

@@ -3,7 +3,7 @@ use Rattle.std.proofs.Common.{◌≡◌, ℕ, ◌+◌, ◌*◌, ◌<◌, ◌≤�
 use Rattle.std.proofs.lemmas.List.{drop_more, drop_all}
 use Rattle.endless.specs.Games.{Game, Among, May}
 use Rattle.endless.specs.Sets.{Set, In, Out}
-use Rattle.endless.specs.Bits.{members, size}
+use Rattle.endless.specs.Bits.{members}
 use Rattle.endless.specs.Graph.{sources}
 use Rattle.endless.specs.Sides.{number}
 use Rattle.endless.specs.Pulling.{Working, Pulled, Looked}
