@@ -76,7 +76,7 @@ fn pull(
         }
     }
     bits::remove(left, from);
-    out[2 * from as usize] = side.to_word();
+    out[2 * from as usize] = u32::from(side);
     out[2 * from as usize + 1] = to;
     queue[tail] = from;
     tail + 1

@@ -185,7 +185,7 @@ impl Claim<'_> {
         ensures { MatchOption result (RoundsWon self.now.graph.now (members self.now.set.now) (number self.now.side) (goes self.now.answer.now)) (λ n. In (members self.now.set.now) n × LosesRound self.now.graph.now (members self.now.set.now) (number self.now.side) (goes self.now.answer.now) n (weigh self.now.graph.now n)) }
     {
         for weight in 0..256 {
-            if weight % 2 != self.side.to_word() {
+            if weight % 2 != u32::from(self.side) {
                 if self.occurs(weight) {
                     if let Some(place) = self.round_of_weight(weight, left, queue, ranks, lent) {
                         return Some(place);

@@ -93,7 +93,7 @@ fn gather_given(answer: &[u32], side: Side, places: u32, set: &mut [u32])
 {
     bits::fill(set, 0);
     for place in 0..places {
-        if answer[2 * place as usize] == side.to_word() {
+        if answer[2 * place as usize] == u32::from(side) {
             bits::insert(set, place);
         }
     }

@@ -9,7 +9,7 @@ use Rattle.endless.proofs.claim.Claim.losing_round.Goals as goal
 pub returns-in-Some : goal.returns-in-Some
 returns-in-Some c =
     found_loses c.args.self.now.graph.now (members c.args.self.now.set.now) (number c.args.self.now.side) (goes c.args.self.now.answer.now) c.loop-weight.weight c.in-Some.place (number_below c.args.self.now.side)
-    (λ e. c.if-weight-to_word.true (e ∙ sym c.to_word.ensures)) c.in-Some.ensures
+    (λ e. c.if-weight-from.true (e ∙ sym c.from.ensures)) c.in-Some.ensures
 
 pub returns : goal.returns
 returns c = cleared_all (members c.args.self.now.set.now) (number c.args.self.now.side) (goes c.args.self.now.answer.now) c.requires.playable (λ k h. c.loop-weight.invariant k (omega arith))
