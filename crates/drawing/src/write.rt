@@ -71,7 +71,7 @@ impl<'a> Line<'a> {
         if row.count > MOST_MOVES - used {
             return Err(Refusal::TooManyMoves { line: self.number });
         }
-        let side = row.side.to_word();
+        let side = u32::from(row.side);
         words.push(side)?;
         words.push(row.weight)?;
         words.push(row.count as u32)?;

@@ -1,5 +1,5 @@
 -- Words read one place at a time: what a place's words are, what is left behind them, and what a whole game is made of.
-use Rattle.std.proofs.Common.{◌≡◌, ℕ, suc, ◌+◌, ◌-◌, ◌<◌, ◌≤◌, Bool, true, false, ◌&&◌, T, ltb, List, [], ◌∷◌, ◌++◌, length, get_or, take, drop, Some, None, Option, add-zero, sym, refl, ap, ◌∙◌, subst, arith, le→leb}
+use Rattle.std.proofs.Common.{◌≡◌, ℕ, suc, ◌+◌, ◌-◌, ◌<◌, ◌≤◌, Bool, true, false, ◌&&◌, T, ltb, List, [], ◌∷◌, ◌++◌, length, get_or, take, drop, Some, None, Ok, Err, Option, Result, add-zero, sym, refl, ap, ◌∙◌, subst, arith, le→leb}
 use Rattle.std.proofs.lemmas.List.{drop_more, drop-drop, drop_all, append-nil, append_assoc, length-append, take_at, drop_at, take-append-drop, length-take-le, length-drop, take_rest}
 use Rattle.std.specs.List.{list_all}
 use Rattle.std.proofs.lemmas.Bool.{both_ways}
@@ -9,15 +9,17 @@ use Rattle.std.specs.Fn.{Called}
 use Rattle.std.specs.Iterator.{YieldsThen}
 use Rattle.std.specs.List.{FoldsTo}
 use Rattle.std.specs.Option.{MatchOption}
+use Rattle.std.specs.Result.{result_ok}
 use denote.Param.Members.{Mut}
 use Rattle.endless.specs.Games.{Place, Game, Reads, below, ok_ps, row}
-use Rattle.endless.specs.Sides.{number}
+use Rattle.endless.specs.Sides.{number, NamesSide}
 use Rattle.endless.specs.Heads.{Begins}
 use Rattle.endless.specs.Words.{Stands, PlaceEnds}
 use Rattle.endless.proofs.Tests.{T_true, true_T, from_both}
 use Rattle.endless.proofs.Places.{ok_parts, ok_from, ok_size}
 use Rattle.endless.specs.declared.side.Side.{Side}
 use Rattle.endless.specs.declared.side.Side.TheVariants.{Even, Odd}
+use Rattle.endless.specs.declared.side.NoSide.{NoSide}
 use Rattle.endless.specs.declared.place.Head.{Head}
 
 -- three words at the front
@@ -86,6 +88,15 @@ place_stands s at n w k m rest is w2 k256 m1 long ins =
 pub number_below : (w : Side) → number w < 2
 number_below Even = omega arith
 number_below Odd = omega arith
+
+-- a word that names a side is the side's number, and one that names none is 2 or more
+pub names_side : (word : ℕ) (r : Result Side NoSide) (side : Side) → NamesSide word r → Some side ≡ result_ok r → word ≡ number side
+names_side word (Ok w) side is e = is ∙ ap number (let same : w ≡ side = cc e in same)
+names_side word (Err e) side is none = absurd (let no : ⊥ = cc none in no)
+
+pub names_none : (word : ℕ) (r : Result Side NoSide) → NamesSide word r → None ≡ result_ok r → 2 ≤ word
+names_none word (Ok w) is e = absurd (let no : ⊥ = cc e in no)
+names_none word (Err e) is none = is.1
 
 abbrev pub Behind : List ℕ → ℕ → List ℕ
 Behind s at = take (length s - at) (drop at s)

@@ -17,7 +17,7 @@ pub fn won_by(answer: &[u32], place: PlaceId) -> Option<Winner>
     ensures { WinnerIs answer.now place.0 result }
 {
     let word = answer.get(2 * place.0 as usize)?;
-    let side = Side::from_word(*word)?;
+    let side = Side::try_from(*word).ok()?;
     Some(Winner(side))
 }
 

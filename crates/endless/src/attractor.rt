@@ -85,7 +85,7 @@ impl Attraction<'_, '_> {
             }
         }
         bits::remove(left, from);
-        self.out[2 * from as usize] = self.side.to_word();
+        self.out[2 * from as usize] = u32::from(self.side);
         self.out[2 * from as usize + 1] = to;
         self.queue[self.tail] = from;
         self.tail += 1;

@@ -47,7 +47,7 @@ pub(crate) fn give(graph: &Graph, side: Side, place: u32, set: &[u32], out: &mut
     requires sets { length graph.now ≤ 32 * length set.now }
     ensures { Given graph.now (number side) place (members set.now) out.old out.new }
 {
-    out[2 * place as usize] = side.to_word();
+    out[2 * place as usize] = u32::from(side);
     out[2 * place as usize + 1] = move_within(graph, place, set);
 }
 
@@ -188,7 +188,7 @@ pub(crate) fn gather_won(winner: Side, set: &mut [u32], out: &[u32], queue: &mut
     ensures same { result ≡ 0 → set.new ≡ set.old }
     ensures starts { Starts (members set.old) (having (members set.old) (side out.now) (number winner)) set.new queue.new result }
 {
-    let word = winner.to_word();
+    let word = u32::from(winner);
     let mut count = 0;
     let mut from = 0;
     // The set loses members on the way, so that no iterator can borrow it, as
@@ -211,7 +211,7 @@ fn is_wanted(winner: Option<Side>, out: &[u32], place: u32) -> bool
     ensures { result ≡ (wanted winner out.now place == mark winner) }
 {
     match winner {
-        Some(side) => out[2 * place as usize] == side.to_word(),
+        Some(side) => out[2 * place as usize] == u32::from(side),
         None => true,
     }
 }

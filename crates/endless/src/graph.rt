@@ -1,7 +1,7 @@
 //! A game in words as a graph: where each place's words start, and which places may move to a place.
 ghost use Rattle.std.specs.Prelude.{◌≡◌, ℕ, suc, ◌+◌, ◌^◌, ◌<◌, ◌≤◌, List, ◌∷◌, length, drop, ◌==◌, slice_index};
 ghost use Rattle.endless.specs.Games.{Place, Game, Reads, row, whose, weight};
-ghost use Rattle.endless.specs.Graph.{positions, moves, Reading, Placed, Preds, times, upto, Filling, Room, Counts, Entered, entering, edges, Ready, Listed};
+ghost use Rattle.endless.specs.Graph.{positions, moves, Placed, Preds, times, upto, Filling, Room, Counts, Entered, entering, edges, Ready, Listed};
 ghost use Rattle.endless.specs.Sides.{number};
 ghost use Rattle.endless.specs.View.{Playable};
 
@@ -51,7 +51,7 @@ impl<'a> Model for Places<'a> {
 }
 
 impl<'a> Places<'a> {
-    /// The places of the game that reads as these words; `starts` is lent for where these of each start.
+    /// The places of the game that reads as these words; `starts` is lent for where each place's words start.
     pub fn new(words: &'a [u32], starts: &'a mut [Halves]) -> Places<'a>
         requires game { (g : Game) × Reads words.now g }
         requires starts { length starts.old ≡ slice_index words.now 0 }
@@ -103,7 +103,7 @@ impl<'a> Places<'a> {
         requires { n < length self.now }
         ensures { result ≡ (whose self.now n == number side) }
     {
-        self.words_from(n)[0] == side.to_word()
+        self.words_from(n)[0] == u32::from(side)
     }
 
     /// The moves of a place.

@@ -95,7 +95,7 @@ impl Examination<'_, '_> {
     {
         let claim = self.claim;
         for weight in 0..256 {
-            if weight % 2 != claim.side.to_word() {
+            if weight % 2 != u32::from(claim.side) {
                 if claim.occurs(weight) {
                     if let Some(place) = self.round_of_weight(weight) {
                         return Some(place);

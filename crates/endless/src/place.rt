@@ -25,7 +25,7 @@ impl Head {
         let [whose, weight, moves, ..] = words else {
             return None;
         };
-        let whose = Side::from_word(*whose)?;
+        let whose = Side::try_from(*whose).ok()?;
         if *weight >= 256 || *moves == 0 {
             return None;
         }

@@ -1,7 +1,10 @@
-//! The two sides of a game.
+//! The two sides of a game, and the words that stand for them.
 ghost use Rattle.std.specs.Prelude.{◌≡◌, ◌%◌};
 ghost use Rattle.endless.specs.Games.{other};
-ghost use Rattle.endless.specs.Sides.{number, SideIs};
+ghost use Rattle.endless.specs.Sides.{number, NamesSide};
+
+use std::error::Error;
+use std::fmt;
 
 /// One of the two sides: `Even` is side 0, `Odd` is side 1.
 #[derive(Clone, Copy, PartialEq, Eq, Debug)]
@@ -11,27 +14,6 @@ pub enum Side {
 }
 
 impl Side {
-    /// The side that a word of a game or an answer names, if it names one.
-    pub fn from_word(word: u32) -> Option<Side>
-        ensures { SideIs word result }
-    {
-        match word {
-            0 => Some(Side::Even),
-            1 => Some(Side::Odd),
-            _ => None,
-        }
-    }
-
-    /// The word that stands for this side.
-    pub fn to_word(self) -> u32
-        ensures { result ≡ number self }
-    {
-        match self {
-            Side::Even => 0,
-            Side::Odd => 1,
-        }
-    }
-
     /// The side that wins where this weight is the heaviest that comes again
     /// and again.
     pub fn of_weight(weight: u32) -> Side
@@ -54,3 +36,40 @@ impl Side {
         }
     }
 }
+
+/// A word that names no side.
+#[derive(Clone, Copy, PartialEq, Eq, Debug)]
+pub struct NoSide(pub u32);
+
+impl TryFrom<u32> for Side {
+    type Error = NoSide;
+
+    ghost try_from_gives = { NamesSide };
+
+    fn try_from(word: u32) -> Result<Side, NoSide> {
+        match word {
+            0 => Ok(Side::Even),
+            1 => Ok(Side::Odd),
+            _ => Err(NoSide(word)),
+        }
+    }
+}
+
+impl From<Side> for u32 {
+    ghost from_gives = { λ side word. word ≡ number side };
+
+    fn from(side: Side) -> u32 {
+        match side {
+            Side::Even => 0,
+            Side::Odd => 1,
+        }
+    }
+}
+
+impl fmt::Display for NoSide {
+    fn fmt<W: fmt::Write>(&self, f: &mut fmt::Formatter<W>) -> fmt::Result {
+        write!(f, "{} is no side", self.0)
+    }
+}
+
+impl Error for NoSide {}

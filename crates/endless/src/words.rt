@@ -1,5 +1,5 @@
 //! Whether words are a game.
-ghost use Rattle.std.specs.Prelude.{◌≡◌, ◌<◌, ◌≤◌, T, ◌↔◌, length};
+ghost use Rattle.std.specs.Prelude.{◌≡◌};
 ghost use Rattle.endless.specs.Games.{below};
 ghost use Rattle.endless.specs.Promises.{IsGamePost};
 ghost use Rattle.endless.specs.Words.{PlacesIs, PlaceEnds};

@@ -21,9 +21,9 @@ pub(crate) fn start(rt: &HostRuntime, table: &Table, file: &str, place: u32) -> 
 {
     let first = name(rt, table, place)?;
     let wins = table.board.winner(place) == table.side;
-    let winner = table.board.winner(place).to_word();
-    let own = table.side.to_word();
-    let yours = table.side.other().to_word();
+    let winner = u32::from(table.board.winner(place));
+    let own = u32::from(table.side);
+    let yours = u32::from(table.side.other());
     println!(rt; "{file}: side {winner} wins from {first}")?;
     println!(rt;
         "the program plays side {own}, you play side {yours}; :help says what you can type"
@@ -44,7 +44,7 @@ pub(crate) fn place(rt: &HostRuntime, table: &Table, place: u32) -> Result<(), F
     let weight = table.board.weight(place);
     let own = table.board.whose(place) == table.side;
     let who = if own { "the program" } else { "you" };
-    let whose = table.board.whose(place).to_word();
+    let whose = u32::from(table.board.whose(place));
     println!(rt; "at {here}, weight {weight}: side {whose} moves, {who}")?;
     Ok(())
 }
@@ -69,7 +69,7 @@ pub(crate) fn question(rt: &HostRuntime) -> Result<(), Fault> {
 pub(crate) fn moved(rt: &HostRuntime, table: &Table, from: u32, to: u32) -> Result<(), Fault>
     requires { from < length table.now.game }
 {
-    let own = table.side.to_word();
+    let own = u32::from(table.side);
     let to = name(rt, table, to)?;
     if steps::goes_by_plan(&table.board, table.side, from) {
         println!(rt; "the program goes to {to}, by its plan")?;
@@ -99,13 +99,13 @@ pub(crate) fn status(
     let last = trail.len();
     println!(rt; "moves made: {made}")?;
     if let Some(weight) = trail.heaviest() {
-        let kind = Side::of_weight(u32::from(weight)).to_word();
+        let kind = u32::from(Side::of_weight(u32::from(weight)));
         println!(rt;
             "places looked back on: {last}, at most the last 1,000; heaviest weight among them: {weight}, of side {kind}'s kind"
         )?;
     }
     let here = name(rt, table, place)?;
-    let winner = table.board.winner(place).to_word();
+    let winner = u32::from(table.board.winner(place));
     println!(rt;
         "that is a look back and no verdict; the verdict is the answer's: side {winner} wins from {here}"
     )?;

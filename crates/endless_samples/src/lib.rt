@@ -119,6 +119,6 @@ mod tests {
             Flaw::Escape { from, to } => (3, from.0, to.0),
             Flaw::LosingRound { through, heaviest } => (4, through.0, heaviest),
         };
-        (side.to_word(), kind, place, told)
+        (u32::from(side), kind, place, told)
     }
 }

@@ -74,7 +74,7 @@ fn place_line<W: Write>(
     let (Some(winner), Some(to)) = (won_by(answer, at), goes_to(answer, at)) else {
         return Ok(());
     };
-    let side = winner.0.to_word();
+    let side = u32::from(winner.0);
     write!(out, "{name} {side} ")?;
     if head.whose != winner.0 {
         return out.write_all(b"-\n");

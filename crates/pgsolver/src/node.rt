@@ -23,7 +23,7 @@ fn owner(text: &[u8]) -> Result<(Side, &[u8]), Slip>
     ensures { Read (owner text.now) result }
 {
     let (word, rest) = scan::number(Fault::Number, text)?;
-    let owner = Side::from_word(word).ok_or(Slip::at(Fault::Owner, rest))?;
+    let owner = Side::try_from(word).map_err(|_| Slip::at(Fault::Owner, rest))?;
     Ok((owner, rest))
 }
 

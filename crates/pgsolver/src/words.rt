@@ -35,7 +35,7 @@ fn write_place(
     requires { length node.now.goals.items ≤ 64000 }
     ensures { (ids : List ℕ) → Locates places.now ids → Went ids node.now.goals.items n (words.old.items ++ (number node.now.head.owner ∷ weight ∷ length node.now.goals.items ∷ [])) words.new.items result }
 {
-    words.push(node.head.owner.to_word())?;
+    words.push(u32::from(node.head.owner))?;
     words.push(weight)?;
     words.push(node.goals.len() as u32)?;
     write_goals(places, &node.goals, n, words)

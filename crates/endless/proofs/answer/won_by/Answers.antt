@@ -3,6 +3,7 @@ use mathlib.Core.Option.{Option}
 use Rattle.endless.specs.Games.{nth, opt}
 use Rattle.endless.specs.Says.{side}
 use Rattle.endless.specs.Answers.{WinnerIs}
+use Rattle.endless.proofs.Readers.{names_side, names_none}
 use Rattle.endless.proofs.Nth.{nth_in, nth_out}
 use Rattle.endless.proofs.answer.won_by.Goals as goal
 
@@ -22,9 +23,9 @@ pub returns-in_err-side : goal.returns-in_err-side
 returns-in_err-side c =
     let f = c.in_ok-word.ensures.lookup.3 in
     subst (WinnerIs c.args.answer.now c.args.place.0) (sym c.from_residual-in_err-side.ensures)
-    (omega (arith, word_side c.args.answer.now c.args.place.0 _ f.0 (f.1 0), c.in_err-side.ensures))
+    (omega (arith, word_side c.args.answer.now c.args.place.0 _ f.0 (f.1 0), names_none _ c.try_from.result c.try_from.ensures c.in_err-side.ensures.value))
 
 pub returns : goal.returns
 returns c =
     let f = c.in_ok-word.ensures.lookup.3 in
-    word_side c.args.answer.now c.args.place.0 _ f.0 (f.1 0) ∙ c.in_ok-side.ensures
+    word_side c.args.answer.now c.args.place.0 _ f.0 (f.1 0) ∙ names_side _ c.try_from.result _ c.try_from.ensures c.in_ok-side.ensures.value

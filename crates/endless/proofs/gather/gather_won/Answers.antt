@@ -32,6 +32,6 @@ pub returns : goal.returns
 returns c = record {
   counts = c.loop-place.invariant.counts;
   same = c.loop-place.invariant.same;
-  starts = subst (λ (k : ℕ). Starts (members c.args.set.now) (having (members c.args.set.now) (side c.args.out.now) k) c.loop-place.set c.loop-place.queue c.loop-place.count) c.to_word-word.ensures
+  starts = subst (λ (k : ℕ). Starts (members c.args.set.now) (having (members c.args.set.now) (side c.args.out.now) k) c.loop-place.set c.loop-place.queue c.loop-place.count) c.from-word.ensures
       (gathering_all c.loop-place.invariant c.in_default.ensures);
 }

@@ -6,8 +6,8 @@ use Rattle.endless.proofs.gather.is_wanted.Goals as goal
 
 pub returns-in-Some : goal.returns-in-Some
 returns-in-Some c =
-    subst (λ (w : Option Side). eqb (get_or c.args.out.now (2 * c.args.place) 0) c.to_word.result ≡ eqb (wanted w c.args.out.now c.args.place) (mark w)) (sym c.in-Some.is)
-    (ap₂ eqb (sym (side_at c.args.out.now c.args.place c.requires)) c.to_word.ensures)
+    subst (λ (w : Option Side). eqb (get_or c.args.out.now (2 * c.args.place) 0) c.from.result ≡ eqb (wanted w c.args.out.now c.args.place) (mark w)) (sym c.in-Some.is)
+    (ap₂ eqb (sym (side_at c.args.out.now c.args.place c.requires)) c.from.ensures)
 
 pub returns-in-None : goal.returns-in-None
 returns-in-None c = subst (λ (w : Option Side). true ≡ eqb (wanted w c.args.out.now c.args.place) (mark w)) (sym c.in-None.is) refl

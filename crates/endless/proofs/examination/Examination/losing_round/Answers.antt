@@ -9,7 +9,7 @@ use Rattle.endless.proofs.examination.Examination.losing_round.Goals as goal
 pub returns-in-Some-clause-found : goal.returns-in-Some-clause-found
 returns-in-Some-clause-found c =
     let claim = c.args.self.now.claim in
-    found_loses claim.graph.now (members claim.set.now) (number claim.side) (goes claim.answer.now) c.loop-weight.weight c.in-Some.place (number_below claim.side) (λ e. c.if-weight-to_word.true (e ∙ sym c.to_word.ensures)) (rw (← c.loop-weight.invariant.0) c.in-Some.ensures.found)
+    found_loses claim.graph.now (members claim.set.now) (number claim.side) (goes claim.answer.now) c.loop-weight.weight c.in-Some.place (number_below claim.side) (λ e. c.if-weight-from.true (e ∙ sym c.from.ensures)) (rw (← c.loop-weight.invariant.0) c.in-Some.ensures.found)
 
 pub returns-clause-found : goal.returns-clause-found
 returns-clause-found c =

@@ -6,4 +6,4 @@ pub bounds-words_from-0 : goal.bounds-words_from-0
 bounds-words_from-0 c = omega (arith, ap length c.words_from.ensures.are, front_long c.args.self.now c.args.n c.requires)
 
 pub returns : goal.returns
-returns c = ap₂ eqb (ap (λ l. get_or l 0 0) c.words_from.ensures.are ∙ front_owner c.args.self.now c.args.n c.requires) c.to_word.ensures
+returns c = ap₂ eqb (ap (λ l. get_or l 0 0) c.words_from.ensures.are ∙ front_owner c.args.self.now c.args.n c.requires) c.from.ensures
