@@ -7,34 +7,11 @@ use Rattle.ends.proofs.mend.mend.Goals as goal
 pub loop-index-init : goal.loop-index-init
 loop-index-init c = mending_none c.args.words.now c.args.made.now (get_or c.args.words.now 0 0) refl (search rules) (search rules)
 
-pub copy_place-requires : goal.copy_place-requires
-copy_place-requires c =
-    let m = c.loop-index.invariant in
-    let t = told_small c.args.words.now (get_or c.args.words.now 0 0) refl c.if-places-gt-MOST_PLACES.false in
-    (m.within, omega (arith, m.room, t, c.requires, c.loop-index-test.true, c.loop-index.auto.made, length-set c.args.made.now 0 (get_or c.args.words.now 0 0)))
-
 pub returns-in_err-copied : goal.returns-in_err-copied
 returns-in_err-copied c =
     subst (MendedIs c.args.words.now c.copy_place.new.made) (sym c.from_residual.ensures)
     (mending_stops c.args.words.now c.loop-index.made (get_or c.args.words.now 0 0) c.loop-index.index c.loop-index.at c.loop-index.to c.loop-index-test.true refl c.loop-index.invariant c.in_err-copied.ensures)
 
-pub overflow_add-to : goal.overflow_add-to
-overflow_add-to c =
-    let m = c.loop-index.invariant in
-    let k = c.in_ok-copied.ensures in
-    let t = told_small c.args.words.now (get_or c.args.words.now 0 0) refl c.if-places-gt-MOST_PLACES.false in
-    search (rules, m.room, k.longer, k.within, t, c.requires, c.loop-index-test.true)
-
 pub loop-index-preserved : goal.loop-index-preserved
 loop-index-preserved c =
     mending_more c.args.words.now c.loop-index.made (get_or c.args.words.now 0 0) c.loop-index.index c.loop-index.at c.loop-index.to c.copy_place.new.made c.in_ok-copied.copied c.loop-index-test.true refl c.loop-index.invariant c.in_ok-copied.ensures
-
-pub returns-then-at-words : goal.returns-then-at-words
-returns-then-at-words c =
-    let m = c.loop-index.invariant in
-    mending_all c.args.words.now c.loop-index.made (get_or c.args.words.now 0 0) c.loop-index.index c.loop-index.at c.loop-index.to (omega arith) refl c.if-places-gt-MOST_PLACES.false
-    (omega (arith, c.requires, c.loop-index.auto.made, length-set c.args.made.now 0 (get_or c.args.words.now 0 0))) m c.if-at-words.true
-
-pub returns-else-at-words : goal.returns-else-at-words
-returns-else-at-words c =
-    mending_behind c.args.words.now c.loop-index.made (get_or c.args.words.now 0 0) c.loop-index.index c.loop-index.at c.loop-index.to (omega arith) refl c.loop-index.invariant c.if-at-words.false

@@ -16,10 +16,3 @@ returns-then-head-ge256 c = λ g i h l r.
     let many = ap (λ s. get_or s 2 0) is ∙ front_many g i h in
     let next = (reading_next c.args.words.now g i c.args.at h r).bound in
     elim c.then-head-ge256.branch [ then-head-ge256-via-then-head-ge256 w ↦ omega (arith, weighs, c.read-head.ensures.weight, w.if-head-ge256) | then-head-ge256-via-else-head-ge256+then-place-head w ↦ omega (arith, many, next, ap length slice, length-drop c.args.at c.args.words.now, c.read-head.ensures.moves, w.if-place-head) ]
-
-pub returns : goal.returns
-returns c = (
-  let e = head_words c.args.words.now c.args.at c.if-place-lt3.false in let f = c.read-head.ensures in cc (e, f.whose, f.weight, f.moves),
-  c.if-head-ge256.false,
-  omega (arith, c.requires, c.if-place-lt3.false, c.if-place-head.false, ap length (take_rest c.args.words.now c.args.at), length-drop c.args.at c.args.words.now),
-)
