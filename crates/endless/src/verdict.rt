@@ -138,10 +138,9 @@ impl Checking<'_> {
             ranks: self.ranks,
             lent: self.lent,
         };
-        match examination.find_flaw(self.all) {
-            Ok(()) => Ok(()),
-            Err(flaw) => Err(Reason::Plan { side: winner, flaw }),
-        }
+        examination
+            .find_flaw(self.all)
+            .map_err(|flaw| Reason::Plan { side: winner, flaw })
     }
 }
 
