@@ -1,6 +1,8 @@
 -- Looking at an answer: the places given to a side, and what a flaw of its plan there says of the answer.
-use Rattle.std.proofs.Common.{◌≡◌, ℕ, ◌*◌, ◌%◌, ◌<◌, ◌≤◌, ltb, ◌⊎◌, ◌↔◌, List, length, MatchOption, Option, Some, None, Ok, Err, sym, refl, ap, ◌∙◌, subst, inl, inr, arith}
+use Rattle.std.proofs.Common.{◌≡◌, ℕ, ◌*◌, ◌%◌, ◌<◌, ◌≤◌, ltb, ◌⊎◌, ◌↔◌, List, length, MatchOption, Option, Some, None, Ok, Err, MatchResult, Result, sym, refl, ap, ◌∙◌, subst, inl, inr, arith}
+use Rattle.std.specs.Result.{IsErrAnd}
 use Rattle.std.proofs.lemmas.Bool.{cases_eq}
+use Rattle.std.proofs.lemmas.Result.{err_from_is_err_and}
 use Rattle.endless.specs.Games.{Game, Reads}
 use Rattle.endless.specs.Says.{WinsFrom, side, goes}
 use Rattle.endless.specs.Sets.{Set, In, Within, whole, having}
@@ -9,7 +11,7 @@ use Rattle.endless.specs.Sides.{number}
 use Rattle.endless.specs.Bits.{members, size}
 use Rattle.endless.specs.Flaws.{FlawIs}
 use Rattle.endless.specs.Layout.{Accepts}
-use Rattle.endless.specs.Checked.{IsAnswer, ReasonIs, CheckedPost}
+use Rattle.endless.specs.Checked.{IsAnswer, ReasonIs, SideChecked, CheckedPost}
 use Rattle.endless.specs.declared.flaw.Flaw.{Flaw}
 use Rattle.endless.specs.declared.flaw.Flaw.TheVariants.{NoMove, Leaves, Escape, LosingRound}
 use Rattle.endless.specs.declared.verdict.Reason.{Reason}
@@ -46,28 +48,36 @@ first_below Yes No n (Some i) t = (t.1, t.2)
 abbrev pub GivenTo : List ℕ → ℕ → ℕ → List ℕ → Type 0
 GivenTo o w n set = (j : ℕ) → (In (members set) j ↔ ((j < n) × (side o j ≡ w)))
 
-module _ (g : Game) (o : List ℕ) (w n : ℕ) (all set : List ℕ) (are : (j : ℕ) → members all j ≡ ltb j (length g)) (many : n ≡ length g) (given : GivenTo o w n set) where
-  given_having : Within (members set) (having (whole g) (side o) w)
-  given_having j x = let t = (given j).0 x in having_in (whole g) (side o) w j (whole_in g j (omega (arith, t.0))) t.1
+module _ (g : Game) (o : List ℕ) (v : Side) (n : ℕ) (all set : List ℕ) (are : (j : ℕ) → members all j ≡ ltb j (length g)) (many : n ≡ length g) (given : GivenTo o (number v) n set) where
+  given_having : Within (members set) (having (whole g) (side o) (number v))
+  given_having j x = let t = (given j).0 x in having_in (whole g) (side o) (number v) j (whole_in g j (omega (arith, t.0))) t.1
 
-  having_given : Within (having (whole g) (side o) w) (members set)
+  having_given : Within (having (whole g) (side o) (number v)) (members set)
   having_given j x =
-      let l = whole_place g j (having_within (whole g) (side o) w j x) in
-      (given j).1 (omega arith, having_is (whole g) (side o) w j x)
+      let l = whole_place g j (having_within (whole g) (side o) (number v) j x) in
+      (given j).1 (omega arith, having_is (whole g) (side o) (number v) j x)
 
   given_all : Within (members set) (members all)
-  given_all j x = whole_filled g all are j (having_within (whole g) (side o) w j (given_having j x))
+  given_all j x = whole_filled g all are j (having_within (whole g) (side o) (number v) j (given_having j x))
 
   -- there are no more of them than there are places
   pub given_room : length set ≡ length all → size all ≡ length g → size set ≤ length g
   given_room e size-all = omega (arith, size_sub set all e (λ j x. T_true _ (given_all j (true_T _ x))))
 
   -- what is so of them, as words hold them and the set of all places, is so in the whole game
-  pub given_holds : {plan : ℕ → ℕ} → (Within (members set) (members all) → Holds g (members all) (members set) w plan) → Holds g (whole g) (having (whole g) (side o) w) w plan
-  given_holds holds = holds_as (members all) (whole g) (members set) (having (whole g) (side o) w) (filled_whole g all are) (whole_filled g all are) given_having having_given (holds given_all)
+  given_holds : {plan : ℕ → ℕ} → (Within (members set) (members all) → Holds g (members all) (members set) (number v) plan) → Holds g (whole g) (having (whole g) (side o) (number v)) (number v) plan
+  given_holds holds = holds_as (members all) (whole g) (members set) (having (whole g) (side o) (number v)) (filled_whole g all are) (whole_filled g all are) given_having having_given (holds given_all)
 
-  pub given_flaw : (plan : ℕ → ℕ) (f : Flaw) → (Within (members set) (members all) → FlawIs g (members all) (members set) w plan f) → FlawIs g (whole g) (having (whole g) (side o) w) w plan f
-  given_flaw plan f flaw = flaw_as g (members all) (whole g) (members set) (having (whole g) (side o) w) w plan (filled_whole g all are) given_having having_given f (flaw given_all)
+  given_flaw : (plan : ℕ → ℕ) (f : Flaw) → (Within (members set) (members all) → FlawIs g (members all) (members set) (number v) plan f) → FlawIs g (whole g) (having (whole g) (side o) (number v)) (number v) plan f
+  given_flaw plan f flaw = flaw_as g (members all) (whole g) (members set) (having (whole g) (side o) (number v)) (number v) plan (filled_whole g all are) given_having having_given f (flaw given_all)
+
+  -- so a side is checked, where a flaw is told as one of its plan
+  pub given_checked : (r : Result (Unit {0}) Flaw) (r' : Result (Unit {0}) Reason) (L : Flaw → Reason → Type 0) → MatchResult r (λ u. r' ≡ Ok u) (λ f. IsErrAnd r' (L f)) → ((f : Flaw) (reason : Reason) → L f reason → reason ≡ Plan v f) →
+      (Within (members set) (members all) → MatchResult r (λ _. Holds g (members all) (members set) (number v) (goes o)) (λ f. FlawIs g (members all) (members set) (number v) (goes o) f)) → SideChecked g o v r'
+  given_checked (Ok u) r' L is plan found = subst (SideChecked g o v) (sym is) (given_holds found)
+  given_checked (Err f) r' L is plan found =
+      let p = err_from_is_err_and r' is in
+      subst (SideChecked g o v) (sym p.1) (subst (ReasonIs g o) (sym (plan f p.0 p.2)) (given_flaw (goes o) f found))
 
 -- ---- a flaw of a plan
 

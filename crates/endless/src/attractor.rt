@@ -4,7 +4,7 @@ ghost use Rattle.endless.specs.Sets.{Set, In};
 ghost use Rattle.endless.specs.Subgames.{Subgame};
 ghost use Rattle.endless.specs.Sides.{number};
 ghost use Rattle.endless.specs.Bits.{members, size};
-ghost use Rattle.endless.specs.Pulling.{Escapes, Pulled, Sized, Moved, Looked, Starts, Attracts};
+ghost use Rattle.endless.specs.Pulling.{Escapes, Sized, Moved, Starts, Attracts};
 
 use crate::bits;
 use crate::graph::Graph;

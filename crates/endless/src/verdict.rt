@@ -1,6 +1,6 @@
 //! Whether an answer is right: a call that looks at it, and trusts nothing of
 //! how it was found.
-ghost use Rattle.std.specs.Prelude.{◌≡◌, ℕ, ◌+◌, ◌*◌, ◌<◌, ◌≤◌, ◌↔◌, length, MatchOption, MatchResult, slice_index};
+ghost use Rattle.std.specs.Prelude.{◌≡◌, ℕ, ◌+◌, ◌*◌, ◌<◌, ◌≤◌, ◌↔◌, length, MatchOption, MatchResult};
 ghost use Rattle.endless.specs.Games.{Game, Reads};
 ghost use Rattle.endless.specs.Says.{side as says, goes};
 ghost use Rattle.endless.specs.Sets.{In, whole};
@@ -138,10 +138,9 @@ impl Checking<'_> {
             ranks: self.ranks,
             lent: self.lent,
         };
-        match examination.find_flaw(self.all) {
-            Ok(()) => Ok(()),
-            Err(flaw) => Err(Reason::Plan { side: winner, flaw }),
-        }
+        examination
+            .find_flaw(self.all)
+            .map_err(|flaw| Reason::Plan { side: winner, flaw })
     }
 }
 

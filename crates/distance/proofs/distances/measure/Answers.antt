@@ -1,4 +1,4 @@
-use Rattle.std.proofs.Common.{◌<◌, ◌*◌, ◌≤◌, ℕ, length, ap, sym, subst}
+use Rattle.std.proofs.Common.{◌<◌, ◌≤◌, ℕ, length, sym, subst}
 use Rattle.endless.specs.Games.{Game}
 use Rattle.endless.specs.Pulling.{Unchanged}
 use Rattle.endless.specs.Says.{goes}
