@@ -119,6 +119,7 @@ impl<'a> Places<'a> {
     fn words_from(&self, n: u32) -> &'a [u32]
         requires { n < length self.now }
         ensures are { result.now ≡ row (drop n self.now) }
+        ensures long { 3 ≤ length result.now }
         ensures playable { Playable self.now }
     {
         let at = position(self.starts[n as usize]);

@@ -1,10 +1,7 @@
-use Rattle.std.proofs.Common.{length, get_or, sym, ap, ◌∙◌, arith}
+use Rattle.std.proofs.Common.{get_or, sym, ap, ◌∙◌, arith}
 use Rattle.endless.proofs.Places.{side_below}
-use Rattle.endless.proofs.Reading.{front_owner, front_weighs, front_many, front_long}
+use Rattle.endless.proofs.Reading.{front_owner, front_weighs, front_many}
 use Rattle.endless.proofs.graph.Places.head.Goals as goal
-
-pub read-head-requires : goal.read-head-requires
-read-head-requires c = omega (arith, ap length c.words_from.ensures.are, front_long c.args.self.now c.args.n c.requires)
 
 pub returns-then-head-eq0 : goal.returns-then-head-eq0
 returns-then-head-eq0 c = record {

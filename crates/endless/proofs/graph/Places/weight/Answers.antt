@@ -1,10 +1,7 @@
-use Rattle.std.proofs.Common.{length, get_or, ap, ◌∙◌, arith}
+use Rattle.std.proofs.Common.{get_or, ap, ◌∙◌, arith}
 use Rattle.endless.proofs.Places.{weight_below}
-use Rattle.endless.proofs.Reading.{front_weighs, front_long}
+use Rattle.endless.proofs.Reading.{front_weighs}
 use Rattle.endless.proofs.graph.Places.weight.Goals as goal
-
-pub bounds-words_from-1 : goal.bounds-words_from-1
-bounds-words_from-1 c = omega (arith, ap length c.words_from.ensures.are, front_long c.args.self.now c.args.n c.requires)
 
 pub returns : goal.returns
 returns c =
