@@ -7,6 +7,7 @@ use Rattle.endless.specs.Subgames.{Subgame, Solves}
 use Rattle.endless.specs.Bits.{members}
 use Rattle.endless.specs.Graph.{edges}
 use Rattle.endless.specs.Weights.{occurs, kinds}
+use Rattle.endless.specs.declared.desk.Desk.{Desk}
 use Rattle.endless.specs.Levels.{Room}
 use Rattle.endless.specs.Layout.{width, LentIsEnough, LaidOut, Fresh}
 use Rattle.endless.specs.declared.layout.Layout.{Layout}
@@ -36,22 +37,22 @@ pub laid_reads : {s : List ℕ} {g : Game} (r : Layout) → Reads s g → LaidOu
 laid_reads {s} r reads laid = subst (Reads s) (sym laid.is) reads
 
 -- what is laid out is enough to begin with
-pub laid_fresh : {s : List ℕ} {g : Game} (r : Layout) (out : List ℕ) → Reads s g → LaidOut g r → 2 * length g ≤ length out → Fresh g r.all.now out r.queue.now r.escapes.now
-laid_fresh {s} {g} r out reads laid answers =
+pub laid_fresh : {s : List ℕ} {g : Game} (r : Layout) (desk : Desk) → Reads s g → LaidOut g r → 2 * length g ≤ length desk.out.now → desk.queue.now ≡ r.queue.now → desk.escapes.now ≡ r.escapes.now → Fresh g r.all.now desk
+laid_fresh {s} {g} r desk reads laid answers q e =
     let most = (ok_size _ g reads).1 in
     let w : 32 * width (length g) ≤ length g + 31 = omega arith in
     record {
       are = laid.are;
       many = laid.many;
-      sized = record { sets = omega (arith, laid.wide); answers = answers; cursors = laid.escapes };
-      queues = laid.queue;
+      sized = record { sets = omega (arith, laid.wide); answers = answers; cursors = rw e laid.escapes };
+      queues = rw q laid.queue;
       small = omega (arith, laid.wide);
     }
 
 -- and the first level has its room
-pub first_room : {s : List ℕ} {g : Game} (r : Layout) (sets out : List ℕ) → Reads s g → LaidOut g r → 2 * length g ≤ length out → length sets ≡ kinds g * length r.all.now → Room g 256 r.all.now sets out r.queue.now r.escapes.now
-first_room {s} {g} r sets out reads laid answers long =
-    let f = laid_fresh r out reads laid answers in
+pub first_room : {s : List ℕ} {g : Game} (r : Layout) (sets : List ℕ) (desk : Desk) → Reads s g → LaidOut g r → 2 * length g ≤ length desk.out.now → desk.queue.now ≡ r.queue.now → desk.escapes.now ≡ r.escapes.now → length sets ≡ kinds g * length r.all.now → Room g 256 r.all.now sets desk
+first_room {s} {g} r sets desk reads laid answers q e long =
+    let f = laid_fresh r desk reads laid answers q e in
     record {
       subgame = filled_subgame g r.all.now laid.are reads;
       light = λ n x. weight_below reads n;

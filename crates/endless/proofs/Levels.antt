@@ -9,6 +9,8 @@ use Rattle.endless.specs.Bits.{members, count, size}
 use Rattle.endless.specs.Weights.{weighing, occurs}
 use Rattle.endless.specs.View.{Playable}
 use Rattle.endless.specs.Pulling.{Unchanged, Moved, Starts, Attracts}
+use Rattle.endless.specs.Desks.{SameDesk}
+use Rattle.endless.specs.declared.desk.Desk.{Desk}
 use Rattle.endless.specs.Levels.{HeaviestIn, GatheredIn, Brought, Peeled, Peels, Reduces, Lent, levels, Room}
 use Rattle.endless.proofs.Tests.{T_true, true_T}
 use Rattle.endless.proofs.Sets.{in_or_out, minus_out, having_in, having_within}
@@ -74,14 +76,21 @@ levels_fall g n h bound l e b =
 pub brought_subgame : {g : Game} {U B : Set} {w h : ℕ} {out : List ℕ} → Subgame g U → Brought g U w h B out → Subgame g B
 brought_subgame {U = U} {B = B} sub b = subgame_as (minus U (minus U B)) B (minus_twice U B b.within) (twice_minus U B b.within) (rest_subgame sub b.attractor)
 
+-- the same desk, time after time
+pub desk_then : {a b c : Desk} → SameDesk a b → SameDesk b c → SameDesk a c
+desk_then s t = record { out = t.out ∙ s.out; queue = t.queue ∙ s.queue; escapes = t.escapes ∙ s.escapes; out_long = t.out_long ∙ s.out_long; queue_long = t.queue_long ∙ s.queue_long; escapes_long = t.escapes_long ∙ s.escapes_long }
+
+pub desk_none : (a : Desk) → SameDesk a a
+desk_none a = record { out = refl; queue = refl; escapes = refl; out_long = refl; queue_long = refl; escapes_long = refl }
+
 -- the room for the level below
-pub room_below : {g : Game} {bound h w : ℕ} {own rest out queue escapes : List ℕ} (part : List ℕ) {left deeper out' queue' escapes' : List ℕ} → Room g bound own rest out queue escapes → Closed g (members own) (members part) → HeaviestIn g (members part) h → Brought g (members part) w h (members left) out' →
-    length left ≡ length own → length deeper ≡ length rest - length own → length out' ≡ length out → length queue' ≡ length queue → length escapes' ≡ length escapes → Room g h left deeper out' queue' escapes'
-room_below {g = g} {bound = bound} {h = h} {own = own} part {left = left} {deeper = deeper} r closed heavy b long-l long-d long-o long-q long-e = record {
+pub room_below : {g : Game} {bound h w : ℕ} {own rest : List ℕ} {desk : Desk} (part : List ℕ) {left deeper : List ℕ} {desk' : Desk} → Room g bound own rest desk → Closed g (members own) (members part) → HeaviestIn g (members part) h → Brought g (members part) w h (members left) desk'.out.now →
+    length left ≡ length own → length deeper ≡ length rest - length own → SameDesk desk desk' → Room g h left deeper desk'
+room_below {g = g} {bound = bound} {h = h} {own = own} part {left = left} {deeper = deeper} r closed heavy b long-l long-d same-d = record {
   subgame = brought_subgame (closed_subgame r.subgame closed) b;
   light = light;
-  sized = record { sets = omega (arith, r.sized.sets); answers = omega (arith, r.sized.answers); cursors = omega (arith, r.sized.cursors) };
-  queues = omega (arith, r.queues, size_sub left own long-l (λ j x. T_true _ (closed.within j (b.within j (true_T _ x)))));
+  sized = record { sets = omega (arith, r.sized.sets); answers = omega (arith, r.sized.answers, same-d.out_long); cursors = omega (arith, r.sized.cursors, same-d.escapes_long) };
+  queues = omega (arith, r.queues, same-d.queue_long, size_sub left own long-l (λ j x. T_true _ (closed.within j (b.within j (true_T _ x)))));
   small = omega (arith, r.small);
   sets = sets;
 }
@@ -152,32 +161,32 @@ pub solves_none : (g : Game) (left out : List ℕ) → size left ≡ 0 → Subga
 solves_none g left out none = leveling_all none (leveling_none g left out)
 
 -- the room of a level is that of what is left in it
-pub room_now : {g : Game} {bound : ℕ} {own rest out queue escapes own' rest' out' queue' escapes' : List ℕ} → Room g bound own rest out queue escapes → Leveling g own out own' out' →
-    length own' ≡ length own → length rest' ≡ length rest → length out' ≡ length out → length queue' ≡ length queue → length escapes' ≡ length escapes → Room g bound own' rest' out' queue' escapes'
-room_now {g = g} {bound = bound} {own = own} {own' = own'} r k long-w long-r long-o long-q long-e = record {
+pub room_now : {g : Game} {bound : ℕ} {own rest own' rest' : List ℕ} {desk desk' : Desk} → Room g bound own rest desk → Leveling g own desk.out.now own' desk'.out.now →
+    length own' ≡ length own → length rest' ≡ length rest → SameDesk desk desk' → Room g bound own' rest' desk'
+room_now {g = g} {bound = bound} {own = own} {own' = own'} r k long-w long-r same-d = record {
   subgame = (k.reduces r.subgame).rest;
   light = λ n x. r.light n (k.less n x);
-  sized = record { sets = omega (arith, r.sized.sets); answers = omega (arith, r.sized.answers); cursors = omega (arith, r.sized.cursors) };
-  queues = omega (arith, r.queues, size_sub own' own long-w (λ j x. T_true _ (k.less j (true_T _ x))));
+  sized = record { sets = omega (arith, r.sized.sets); answers = omega (arith, r.sized.answers, same-d.out_long); cursors = omega (arith, r.sized.cursors, same-d.escapes_long) };
+  queues = omega (arith, r.queues, same-d.queue_long, size_sub own' own long-w (λ j x. T_true _ (k.less j (true_T _ x))));
   small = omega (arith, r.small);
   sets = omega (arith, r.sets, ap (λ (k : ℕ). levels g bound * k) long-w);
 }
 
 -- the room of a level is lent to its steps
-pub room_lent : {g : Game} {bound : ℕ} {own rest out queue escapes out' queue' escapes' : List ℕ} → Room g bound own rest out queue escapes → length out' ≡ length out → length queue' ≡ length queue → length escapes' ≡ length escapes → Lent g own out' queue' escapes'
-room_lent r long-o long-q long-e = record {
+pub room_lent : {g : Game} {bound : ℕ} {own rest : List ℕ} {desk desk' : Desk} → Room g bound own rest desk → SameDesk desk desk' → Lent g own desk'
+room_lent r same-d = record {
   inside = r.subgame.places;
-  sized = record { sets = r.sized.sets; answers = omega (arith, r.sized.answers); cursors = omega (arith, r.sized.cursors) };
-  queues = omega (arith, r.queues);
+  sized = record { sets = r.sized.sets; answers = omega (arith, r.sized.answers, same-d.out_long); cursors = omega (arith, r.sized.cursors, same-d.escapes_long) };
+  queues = omega (arith, r.queues, same-d.queue_long);
   small = r.small;
 }
 
 -- the weights below are lighter
-pub room_light : {g : Game} {bound h : ℕ} {own rest out queue escapes : List ℕ} (part : List ℕ) → Room g bound own rest out queue escapes → Closed g (members own) (members part) → HeaviestIn g (members part) h → h < bound
+pub room_light : {g : Game} {bound h : ℕ} {own rest : List ℕ} {desk : Desk} (part : List ℕ) → Room g bound own rest desk → Closed g (members own) (members part) → HeaviestIn g (members part) h → h < bound
 room_light part r closed heavy = let t = heavy.some_place in omega (arith, r.light t.0 (closed.within t.0 t.1), t.2)
 
 -- where a place is left there is room for the set of the level below
-pub room_set : {g : Game} {bound : ℕ} {own rest out queue escapes : List ℕ} → Room g bound own rest out queue escapes → 0 < size own → length own ≤ length rest
+pub room_set : {g : Game} {bound : ℕ} {own rest : List ℕ} {desk : Desk} → Room g bound own rest desk → 0 < size own → length own ≤ length rest
 room_set {g = g} {bound = bound} {own = own} r some =
     let t = size_some own some in
     let mine = true_T _ t.1 in

@@ -24,7 +24,7 @@ may_at g to items lists i l = (preds_may g to (get_or items i 0)).0 (subst (λ (
 -- the graph and the side of an attractor that is being made stay throughout
 module _ (a b c : Attraction) (same : Same a b) where
   pub same_then : Same b c → Same a c
-  same_then then = record { graph = then.graph ∙ same.graph; side = then.side ∙ same.side; left = then.left ∙ same.left; out = then.out ∙ same.out; queue = then.queue ∙ same.queue }
+  same_then then = record { graph = then.graph ∙ same.graph; side = then.side ∙ same.side; left = then.left ∙ same.left; out = then.out ∙ same.out; queue = then.queue ∙ same.queue; escapes = then.escapes ∙ same.escapes; out_long = then.out_long ∙ same.out_long; queue_long = then.queue_long ∙ same.queue_long; escapes_long = then.escapes_long ∙ same.escapes_long }
 
   pulled : (from to : ℕ) → Pulls b from to c → Pulled a.graph.now (number a.side) from to b.tail b.left.now b.queue.now b.out.now c.left.now c.queue.now c.out.now c.tail
   pulled from to p = rw (← same.graph, ← same.side) p

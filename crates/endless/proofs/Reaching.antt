@@ -12,6 +12,7 @@ use Rattle.endless.specs.Attractors.{Attractor}
 use Rattle.endless.specs.Bits.{members, Removed, Least, NoneFrom}
 use Rattle.endless.specs.Pulling.{Unchanged, Starts, Moved, Attracts}
 use Rattle.endless.specs.Levels.{Stays, Given}
+use Rattle.endless.specs.declared.desk.Desk.{Desk}
 use Rattle.endless.specs.Layout.{Accepts, Fresh}
 use Rattle.endless.specs.Reaching.{Handed, Reaches, ReachedSays, ReachPost}
 use Rattle.endless.proofs.Tests.{true_T, T_true}
@@ -59,18 +60,18 @@ module _ {g : Game} {w : ℕ} (set : List ℕ) {out out' : List ℕ} {from : ℕ
 abbrev pub Only : Game → ℕ → Set
 Only g target = having (whole g) (λ n. n) target
 
-pub only_starts : {g : Game} {left left' out queue escapes : List ℕ} {target : ℕ} → Fresh g left out queue escapes → target < length g → Removed left target left' → Starts (whole g) (Only g target) left' (set queue 0 target) 1
-only_starts {g} {left} {left'} {out} {queue} {escapes} {target} fresh place rem = record {
+pub only_starts : {g : Game} {left left' : List ℕ} {desk : Desk} {target : ℕ} → Fresh g left desk → target < length g → Removed left target left' → Starts (whole g) (Only g target) left' (set desk.queue.now 0 target) 1
+only_starts {g} {left} {left'} {desk} {target} fresh place rem = record {
   rest = λ n x. filled_whole g left fresh.are n (removed_within left target left' rem n x);
   inside = having_within (whole g) (λ n. n) target;
   apart = λ n d. subst (λ (m : ℕ). Out (members left') m) (sym (having_is (whole g) (λ n. n) target n d)) (removed_out left target left' rem);
   covers = λ n u o. having_in (whole g) (λ n. n) target n u (covers n o (removed_which left target left' rem n (whole_filled g left fresh.are n u)));
-  first = λ j h. let e : j ≡ 0 = omega arith in subst (λ (n : ℕ). In (Only g target) n) (sym (ap (λ (i : ℕ). get_or (set queue 0 target) i 0) e ∙ here)) (having_in (whole g) (λ n. n) target target (whole_in g target place) refl);
+  first = λ j h. let e : j ≡ 0 = omega arith in subst (λ (n : ℕ). In (Only g target) n) (sym (ap (λ (i : ℕ). get_or (set desk.queue.now 0 target) i 0) e ∙ here)) (having_in (whole g) (λ n. n) target target (whole_in g target place) refl);
   all = λ n d. (0, omega arith, here ∙ sym (having_is (whole g) (λ n. n) target n d));
 }
   where
-    here : get_or (set queue 0 target) 0 0 ≡ target
-    here = get_or-set_same queue 0 target 0 (omega (arith, fresh.queues))
+    here : get_or (set desk.queue.now 0 target) 0 0 ≡ target
+    here = get_or-set_same desk.queue.now 0 target 0 (omega (arith, fresh.queues))
 
     covers : (n : ℕ) → Out (members left') n → (n ≡ target) ⊎ In (members left') n → n ≡ target
     covers n o (inl e) = e
@@ -150,11 +151,11 @@ module _ {s : List ℕ} {g : Game} (r : Reads s g) {w target : ℕ} (two : w < 2
 -- ---- the steps of `divide`
 
 module _ {s : List ℕ} {g : Game} (reads : Reads s g) {w target : ℕ} (two : w < 2) (place : target < length g)
-    {left left₁ left₂ queue queue₁ queue₂ escapes out out₁ out₂ out₃ : List ℕ} {tail : ℕ} (fresh : Fresh g left out queue escapes)
-    (given : Given g w target (members left) out out₁) (removed : Removed left target left₁) (moved : Moved left₁ queue₁ out₁ 1 left₂ queue₂ out₂ tail)
+    {left left₁ left₂ queue₁ queue₂ out₁ out₂ out₃ : List ℕ} {desk : Desk} {tail : ℕ} (fresh : Fresh g left desk)
+    (given : Given g w target (members left) desk.out.now out₁) (removed : Removed left target left₁) (moved : Moved left₁ queue₁ out₁ 1 left₂ queue₂ out₂ tail)
     (attracts : Attracts g (whole g) w (Only g target) left₂ queue₂ out₂ tail) {q : ℕ} (q-is : q ≡ other w) (handed : Handed g q (members left₂) (32 * length left₂) out₂ out₃)
     (long₂ : length out₂ ≡ length out₁) (long₃ : length out₃ ≡ length out₂) where
-  room : 2 * target + 1 < length out
+  room : 2 * target + 1 < length desk.out.now
   room = omega (arith, fresh.sized.answers)
 
   inside₁ : (n : ℕ) → In (members left₁) n → n < length g
@@ -190,14 +191,14 @@ module _ {s : List ℕ} {g : Game} (reads : Reads s g) {w target : ℕ} (two : w
   reaches = attractor_reaches reads two place (members left₂) (attractor_plan (goes out₃) (λ n x e. unchanged_goes out₂ out₃ n (handed.frame n (minus_out (whole g) (members left₂) n x))) attracts.attractor)
       ours (λ n x. handed.labelled n (inside₂ n x) x ∙ q-is) (λ n x. handed.stays n (inside₂ n x) x) gone target_move
 
-  frame : (n : ℕ) → length g ≤ n → Unchanged out out₃ n
+  frame : (n : ℕ) → length g ≤ n → Unchanged desk.out.now out₃ n
   frame n h =
       let a = given_same room given n (λ e. omega arith) in
       let b = moved.frame n (λ x. absurd (omega (arith, inside₁ n x))) in
       let c = handed.frame n (λ x. omega (arith, inside₁ n (moved.less n x))) in
       (c.0 ∙ b.0 ∙ a.0, c.1 ∙ b.1 ∙ a.1)
 
-  pub divided : ((n : ℕ) → length g ≤ n → Unchanged out out₃ n) × Reaches g w target (side out₃) (goes out₃)
+  pub divided : ((n : ℕ) → length g ≤ n → Unchanged desk.out.now out₃ n) × Reaches g w target (side out₃) (goes out₃)
   divided = (frame, reaches)
 
 -- ---- what each answer of `attract_to` promises

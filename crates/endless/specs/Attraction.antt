@@ -1,5 +1,5 @@
 -- An attractor that is being made: what the steps do to its state.
-use Rattle.std.specs.Prelude.{◌≡◌, ℕ}
+use Rattle.std.specs.Prelude.{◌≡◌, ℕ, length}
 use Rattle.endless.specs.Sets.{Set}
 use Rattle.endless.specs.Subgames.{Subgame}
 use Rattle.endless.specs.Sides.{number}
@@ -13,6 +13,10 @@ pub record Same (a b : Attraction) : Type 0 where
   pub left : b.left.ghost_name ≡ a.left.ghost_name
   pub out : b.out.ghost_name ≡ a.out.ghost_name
   pub queue : b.queue.ghost_name ≡ a.queue.ghost_name
+  pub escapes : b.escapes.ghost_name ≡ a.escapes.ghost_name
+  pub out_long : length b.out.now ≡ length a.out.now
+  pub queue_long : length b.queue.now ≡ length a.queue.now
+  pub escapes_long : length b.escapes.now ≡ length a.escapes.now
 
 -- one place is looked at, which may move to `to`
 abbrev pub Pulls : Attraction → ℕ → ℕ → Attraction → Type 0

@@ -6,6 +6,7 @@ use Rattle.endless.specs.Bits.{members, size}
 use Rattle.endless.specs.Weights.{kinds}
 use Rattle.endless.specs.Pulling.{Sized}
 use Rattle.endless.specs.Levels.{levels}
+use Rattle.endless.specs.declared.desk.Desk.{Desk}
 use Rattle.endless.specs.declared.layout.Layout.{Layout}
 use Rattle.endless.specs.declared.layout.Short.{Short}
 use Rattle.endless.specs.declared.refusal.Refusal.{Refusal}
@@ -52,9 +53,9 @@ pub record LaidOut (g : Game) (r : Layout) : Type 0 where
   pub spare : 2 * width (length g) + (length g + 1) ≤ length r.rest.now
 
 -- a game to begin with: the set of all its places, and room for them in an answer, a queue and the cursors
-pub record Fresh (g : Game) (all out queue escapes : List ℕ) : Type 0 where
+pub record Fresh (g : Game) (all : List ℕ) (desk : Desk) : Type 0 where
   pub are : (j : ℕ) → members all j ≡ nat_lt j (length g)
   pub many : size all ≡ length g
-  pub sized : Sized g all out escapes
-  pub queues : length g ≤ length queue
+  pub sized : Sized g all desk.out.now desk.escapes.now
+  pub queues : length g ≤ length desk.queue.now
   pub small : 32 * length all < 2 ^ 32

@@ -8,6 +8,7 @@ use Rattle.endless.specs.Attractors.{Attractor}
 use Rattle.endless.specs.Bits.{members, count, size, Removed}
 use Rattle.endless.specs.Weights.{occurs}
 use Rattle.endless.specs.Pulling.{Unchanged, Starts, Sized}
+use Rattle.endless.specs.declared.desk.Desk.{Desk}
 
 -- h is the heaviest weight in a set, and some place of it has it
 pub record HeaviestIn (g : Game) (U : Set) (h : ℕ) : Type 0 where
@@ -80,10 +81,10 @@ pub record Reduces (g : Game) (U L : Set) (out : List ℕ) : Type 0 where
   pub solves : (o : List ℕ) → length o ≡ length out → ((n : ℕ) → Out L n → Unchanged out o n) → Solves g L (side o) (goes o) → Solves g U (side o) (goes o)
 
 -- a set of places of a game, and room for them in an answer, the cursors and the queue
-pub record Lent (g : Game) (own out queue escapes : List ℕ) : Type 0 where
+pub record Lent (g : Game) (own : List ℕ) (desk : Desk) : Type 0 where
   pub inside : (n : ℕ) → In (members own) n → n < length g
-  pub sized : Sized g own out escapes
-  pub queues : size own ≤ length queue
+  pub sized : Sized g own desk.out.now desk.escapes.now
+  pub queues : size own ≤ length desk.queue.now
   pub small : 32 * length own < 2 ^ 32
 
 -- how many different weights below a bound occur in a game
@@ -91,10 +92,10 @@ abbrev pub levels : Game → ℕ → ℕ
 levels g bound = count (occurs g) bound
 
 -- a subgame with all weights below a bound, and room for the sets of its levels: one for each different weight below the bound
-pub record Room (g : Game) (bound : ℕ) (own rest out queue escapes : List ℕ) : Type 0 where
+pub record Room (g : Game) (bound : ℕ) (own rest : List ℕ) (desk : Desk) : Type 0 where
   pub subgame : Subgame g (members own)
   pub light : (n : ℕ) → In (members own) n → weight g n < bound
-  pub sized : Sized g own out escapes
-  pub queues : size own ≤ length queue
+  pub sized : Sized g own desk.out.now desk.escapes.now
+  pub queues : size own ≤ length desk.queue.now
   pub small : 32 * length own < 2 ^ 32
   pub sets : levels g bound * length own ≤ length rest

@@ -15,6 +15,7 @@ pub mod Weights
 pub mod Graph
 pub mod View
 pub mod Pulling
+pub mod Desks
 pub mod Attraction
 pub mod Levels
 pub mod Parts

@@ -4,9 +4,11 @@ ghost use Rattle.endless.specs.Sets.{Set, In};
 ghost use Rattle.endless.specs.Subgames.{Subgame};
 ghost use Rattle.endless.specs.Sides.{number};
 ghost use Rattle.endless.specs.Bits.{members, size};
+ghost use Rattle.endless.specs.Desks.{SameDesk};
 ghost use Rattle.endless.specs.Pulling.{Escapes, Sized, Moved, Starts, Attracts};
 
 use crate::bits;
+use crate::desk::Desk;
 use crate::graph::Graph;
 use crate::side::Side;
 
@@ -135,27 +137,26 @@ pub fn attract_counted(
     graph: &Graph,
     side: Side,
     left: &mut [u32],
-    out: &mut [u32],
-    queue: &mut [u32],
-    escapes: &mut [u32],
+    desk: &mut Desk,
     targets: usize,
     all: usize,
 ) -> usize
-    requires sized { Sized graph.now left.old out.old escapes.old }
+    requires sized { Sized graph.now left.old desk.old.out.now desk.old.escapes.now }
     requires inside { (n : ℕ) → In (members left.old) n → n < length graph.now }
-    requires targets { (j : ℕ) → j < targets → slice_index queue.old j < length graph.now }
-    requires room { targets + size left.old ≤ length queue.old }
+    requires targets { (j : ℕ) → j < targets → slice_index desk.old.queue.now j < length graph.now }
+    requires room { targets + size left.old ≤ length desk.old.queue.now }
     requires counted { all ≡ targets + size left.old }
-    ensures moved { Moved left.old queue.old out.old targets left.new queue.new out.new result }
-    ensures attracts { (U D : Set) → Subgame graph.now U → Starts U D left.old queue.old targets → Attracts graph.now U (number side) D left.new queue.new out.new result }
+    ensures same { SameDesk desk.old desk.new }
+    ensures moved { Moved left.old desk.old.queue.now desk.old.out.now targets left.new desk.new.queue.now desk.new.out.now result }
+    ensures attracts { (U D : Set) → Subgame graph.now U → Starts U D left.old desk.old.queue.now targets → Attracts graph.now U (number side) D left.new desk.new.queue.now desk.new.out.now result }
 {
     let mut attraction = Attraction {
-        graph,
+        graph: &*graph,
         side,
         left,
-        out,
-        queue,
-        escapes,
+        out: &mut *desk.out,
+        queue: &mut *desk.queue,
+        escapes: &mut *desk.escapes,
         tail: targets,
     };
     attraction.attract(all);
@@ -167,19 +168,18 @@ pub fn attract(
     graph: &Graph,
     side: Side,
     left: &mut [u32],
-    out: &mut [u32],
-    queue: &mut [u32],
-    escapes: &mut [u32],
+    desk: &mut Desk,
     targets: usize,
 ) -> usize
-    requires sized { Sized graph.now left.old out.old escapes.old }
+    requires sized { Sized graph.now left.old desk.old.out.now desk.old.escapes.now }
     requires inside { (n : ℕ) → In (members left.old) n → n < length graph.now }
-    requires targets { (j : ℕ) → j < targets → slice_index queue.old j < length graph.now }
-    requires room { targets + size left.old ≤ length queue.old }
+    requires targets { (j : ℕ) → j < targets → slice_index desk.old.queue.now j < length graph.now }
+    requires room { targets + size left.old ≤ length desk.old.queue.now }
     requires small { 32 * length left.old < 2 ^ 32 }
-    ensures moved { Moved left.old queue.old out.old targets left.new queue.new out.new result }
-    ensures attracts { (U D : Set) → Subgame graph.now U → Starts U D left.old queue.old targets → Attracts graph.now U (number side) D left.new queue.new out.new result }
+    ensures same { SameDesk desk.old desk.new }
+    ensures moved { Moved left.old desk.old.queue.now desk.old.out.now targets left.new desk.new.queue.now desk.new.out.now result }
+    ensures attracts { (U D : Set) → Subgame graph.now U → Starts U D left.old desk.old.queue.now targets → Attracts graph.now U (number side) D left.new desk.new.queue.now desk.new.out.now result }
 {
     let all = targets + bits::count(left) as usize;
-    attract_counted(graph, side, left, out, queue, escapes, targets, all)
+    attract_counted(graph, side, left, desk, targets, all)
 }

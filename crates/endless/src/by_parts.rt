@@ -8,6 +8,7 @@ ghost use Rattle.endless.specs.Subgames.{Subgame, Closed, Solves};
 ghost use Rattle.endless.specs.Sides.{number};
 ghost use Rattle.endless.specs.Bits.{members, size};
 ghost use Rattle.endless.specs.Pulling.{Unchanged, Sized};
+ghost use Rattle.endless.specs.Desks.{SameDesk};
 ghost use Rattle.endless.specs.Levels.{HeaviestIn, Lent, Brought, Peeled, Peels, Room};
 ghost use Rattle.endless.specs.Parts.{Covers, Part, Saved};
 ghost use Rattle.endless.specs.View.{Playable};
@@ -15,6 +16,7 @@ ghost use Rattle.endless.specs.View.{Playable};
 use crate::attractor::attract_counted;
 use crate::bits;
 use crate::closed::take_part;
+use crate::desk::Desk;
 use crate::gather::{gather_listed, gather_lost, gather_targets, heaviest_in};
 use crate::graph::Graph;
 use crate::order::{Effort, Order, find_start};
@@ -57,24 +59,23 @@ fn bring_about_part(
     own: &[u32],
     list: Option<&[u32]>,
     left: &mut [u32],
-    out: &mut [u32],
-    queue: &mut [u32],
-    escapes: &mut [u32],
+    desk: &mut Desk,
 ) -> (u32, usize)
-    requires lent { Lent graph.now own.now out.old queue.old escapes.old }
+    requires lent { Lent graph.now own.now desk.old }
     requires part { Part own.now (option_copied list) (members left.old) }
     requires counted { unwrap_or (option_map length (option_copied list)) many ≡ size left.old }
     requires same { length left.old ≡ length own.now }
     ensures heaviest { 0 < size left.old → HeaviestIn graph.now (members left.old) result.0 }
     ensures rest { result.1 ≡ size left.new }
-    ensures frame { (n : ℕ) → Out (members left.old) n → Unchanged out.old out.new n }
-    ensures brought { Subgame graph.now (members own.now) → Closed graph.now (members own.now) (members left.old) → Brought graph.now (members left.old) (result.0 % 2) result.0 (members left.new) out.new }
+    ensures same { SameDesk desk.old desk.new }
+    ensures frame { (n : ℕ) → Out (members left.old) n → Unchanged desk.old.out.now desk.new.out.now n }
+    ensures brought { Subgame graph.now (members own.now) → Closed graph.now (members own.now) (members left.old) → Brought graph.now (members left.old) (result.0 % 2) result.0 (members left.new) desk.new.out.now }
 {
     let weight = heaviest_in(graph, list, left);
     let side = Side::of_weight(weight);
-    let targets = gather_targets(graph, side, weight, list, own, left, out, queue);
+    let targets = gather_targets(graph, side, weight, list, own, left, desk.out, desk.queue);
     let all = part_size(list, many);
-    let taken = attract_counted(graph, side, left, out, queue, escapes, targets, all);
+    let taken = attract_counted(graph, side, left, desk, targets, all);
     (weight, all - taken)
 }
 
@@ -87,23 +88,22 @@ fn peel_won(
     many: usize,
     list: Option<&[u32]>,
     own: &mut [u32],
-    out: &mut [u32],
-    queue: &mut [u32],
-    escapes: &mut [u32],
+    desk: &mut Desk,
 ) -> usize
-    requires lent { Lent graph.now own.old out.old queue.old escapes.old }
+    requires lent { Lent graph.now own.old desk.old }
     requires part { (R : Set) × Part own.old (option_copied list) R }
     requires counted { many ≡ size own.old }
     ensures rest { result ≡ size own.new }
     ensures falls { 0 < size own.old → size own.new < size own.old }
     ensures less { Within (members own.new) (members own.old) }
-    ensures frame { (n : ℕ) → Out (members own.old) n → Unchanged out.old out.new n }
-    ensures peeled { (R : Set) → Subgame graph.now (members own.old) → Part own.old (option_copied list.entry) R → Peeled graph.now (members own.old) (number winner) R (members own.new) out.old out.new }
+    ensures same { SameDesk desk.old desk.new }
+    ensures frame { (n : ℕ) → Out (members own.old) n → Unchanged desk.old.out.now desk.new.out.now n }
+    ensures peeled { (R : Set) → Subgame graph.now (members own.old) → Part own.old (option_copied list.entry) R → Peeled graph.now (members own.old) (number winner) R (members own.new) desk.old.out.now desk.new.out.now }
 {
     match list {
         Some(list) => {
-            let targets = gather_listed(None, list, own, out, queue);
-            let taken = attract_counted(graph, winner, own, out, queue, escapes, targets, many);
+            let targets = gather_listed(None, list, own, &mut *desk.out, desk.queue);
+            let taken = attract_counted(graph, winner, own, desk, targets, many);
             many - taken
         }
         None => {
@@ -123,25 +123,24 @@ fn peel_part(
     many: usize,
     list: Option<&[u32]>,
     own: &mut [u32],
-    out: &mut [u32],
-    queue: &mut [u32],
-    escapes: &mut [u32],
+    desk: &mut Desk,
 ) -> usize
-    requires lent { Lent graph.now own.old out.old queue.old escapes.old }
+    requires lent { Lent graph.now own.old desk.old }
     requires part { (R : Set) × Part own.old (option_copied list) R }
     requires counted { many ≡ size own.old }
     ensures rest { result ≡ size own.new }
     ensures falls { 0 < size own.old → size own.new < size own.old }
     ensures less { Within (members own.new) (members own.old) }
-    ensures frame { (n : ℕ) → Out (members own.old) n → Unchanged out.old out.new n }
-    ensures peels { (R : Set) → Subgame graph.now (members own.old) → Part own.old (option_copied list.entry) R → Peels graph.now (members own.old) R (number winner) (other (number winner)) (members own.new) out.old out.new }
+    ensures same { SameDesk desk.old desk.new }
+    ensures frame { (n : ℕ) → Out (members own.old) n → Unchanged desk.old.out.now desk.new.out.now n }
+    ensures peels { (R : Set) → Subgame graph.now (members own.old) → Part own.old (option_copied list.entry) R → Peels graph.now (members own.old) R (number winner) (other (number winner)) (members own.new) desk.old.out.now desk.new.out.now }
 {
     let loser = winner.other();
-    let lost = gather_lost(loser, list, own, out, queue);
+    let lost = gather_lost(loser, list, own, &mut *desk.out, desk.queue);
     if lost == 0 {
-        peel_won(graph, winner, many, list, own, out, queue, escapes)
+        peel_won(graph, winner, many, list, own, desk)
     } else {
-        let taken = attract_counted(graph, loser, own, out, queue, escapes, lost, many);
+        let taken = attract_counted(graph, loser, own, desk, lost, many);
         many - taken
     }
 }
@@ -160,46 +159,41 @@ pub fn level_by_parts(
     within: Option<&[u32]>,
     rest: &mut [u32],
     spare: &mut [u32],
-    out: &mut [u32],
-    queue: &mut [u32],
-    escapes: &mut [u32],
+    desk: &mut Desk,
     effort: &mut Effort,
 )
-    requires room { Room graph.now bound own.old rest.old out.old queue.old escapes.old }
+    requires room { Room graph.now bound own.old rest.old desk.old }
     requires counted { many ≡ size own.old }
     requires covers { ForSome within (λ list. Covers own.old list.now) }
     requires inside { ForSome within (λ list. (j : ℕ) → j < length list.now → slice_index list.now j < 32 * length own.old) }
     requires playable { Playable graph.now }
-    ensures frame { (n : ℕ) → Out (members own.old) n → Unchanged out.old out.new n }
-    ensures solves { Subgame graph.now (members own.old) → Solves graph.now (members own.old) (side out.new) (goes out.new) }
+    ensures same { SameDesk desk.old desk.new }
+    ensures frame { (n : ℕ) → Out (members own.old) n → Unchanged desk.old.out.now desk.new.out.now n }
+    ensures solves { Subgame graph.now (members own.old) → Solves graph.now (members own.old) (side desk.new.out.now) (goes desk.new.out.now) }
 {
     let mut order = Order::new();
     let mut remaining = many;
     while remaining > 0 {
         let start = find_start(
-            graph, own, remaining, spare, queue, escapes, &mut order, effort,
+            graph,
+            own,
+            remaining,
+            spare,
+            desk.queue,
+            desk.escapes,
+            &mut order,
+            effort,
         );
         let (_, free) = spare.split_at_mut(order.kept.min(spare.len()));
         let (left, deeper) = rest.split_at_mut(own.len());
-        let count = take_part(graph, start, within, free.len(), own, left, queue);
-        let (list, beyond) = save(queue, count, free);
-        let (weight, below) = bring_about_part(
-            graph, remaining, own, list, left, out, queue, escapes,
-        );
+        let count = take_part(graph, start, within, free.len(), own, left, desk.queue);
+        let (list, beyond) = save(desk.queue, count, free);
+        let (weight, below) = bring_about_part(graph, remaining, own, list, left, desk);
         if below > 0 {
             level_by_parts(
-                graph, weight, below, left, list, deeper, beyond, out, queue, escapes, effort,
+                graph, weight, below, left, list, deeper, beyond, desk, effort,
             );
         }
-        remaining = peel_part(
-            graph,
-            Side::of_weight(weight),
-            remaining,
-            list,
-            own,
-            out,
-            queue,
-            escapes,
-        );
+        remaining = peel_part(graph, Side::of_weight(weight), remaining, list, own, desk);
     }
 }

@@ -8,6 +8,7 @@ ghost use Rattle.endless.specs.Pulling.{Unchanged};
 ghost use Rattle.endless.specs.Layout.{Accepts, OutRoomIs, LaidOut};
 
 use crate::by_parts::level_by_parts;
+use crate::desk::Desk;
 use crate::graph::{Graph, Places};
 use crate::order::Effort;
 use crate::refusal::Refusal;
@@ -106,6 +107,11 @@ pub(crate) fn solve_game<'a>(words: &'a [u32], out: &mut [u32], work: &'a mut [u
     } = lay_out(words, work);
     let (sets, spare) = rest.split_at_mut(weights::levels(words) * all.len());
     let mut effort = Effort::new(words[0]);
+    let mut desk = Desk {
+        out,
+        queue,
+        escapes,
+    };
     level_by_parts(
         &graph,
         256,
@@ -114,9 +120,7 @@ pub(crate) fn solve_game<'a>(words: &'a [u32], out: &mut [u32], work: &'a mut [u
         None,
         sets,
         spare,
-        out,
-        queue,
-        escapes,
+        &mut desk,
         &mut effort,
     );
 }

@@ -5,10 +5,12 @@ ghost use Rattle.endless.specs.Sets.{Out};
 ghost use Rattle.endless.specs.Subgames.{Subgame, Solves};
 ghost use Rattle.endless.specs.Bits.{members};
 ghost use Rattle.endless.specs.Pulling.{Unchanged};
+ghost use Rattle.endless.specs.Desks.{SameDesk};
 ghost use Rattle.endless.specs.Levels.{Room};
 
 use crate::bits;
 use crate::by_parts::level_by_parts;
+use crate::desk::Desk;
 use crate::graph::Graph;
 use crate::order::Effort;
 
@@ -18,18 +20,11 @@ use crate::order::Effort;
 /// words are spare for lists, so that each part is all of its subgame: for
 /// callers with a subgame of their own, who keep no lists of its places, do not
 /// know how many it has, and have no words to lend but its sets.
-pub fn level(
-    graph: &Graph,
-    bound: u32,
-    own: &mut [u32],
-    rest: &mut [u32],
-    out: &mut [u32],
-    queue: &mut [u32],
-    escapes: &mut [u32],
-)
-    requires room { Room graph.now bound own.old rest.old out.old queue.old escapes.old }
-    ensures frame { (n : ℕ) → Out (members own.old) n → Unchanged out.old out.new n }
-    ensures solves { Subgame graph.now (members own.old) → Solves graph.now (members own.old) (side out.new) (goes out.new) }
+pub fn level(graph: &Graph, bound: u32, own: &mut [u32], rest: &mut [u32], desk: &mut Desk)
+    requires room { Room graph.now bound own.old rest.old desk.old }
+    ensures same { SameDesk desk.old desk.new }
+    ensures frame { (n : ℕ) → Out (members own.old) n → Unchanged desk.old.out.now desk.new.out.now n }
+    ensures solves { Subgame graph.now (members own.old) → Solves graph.now (members own.old) (side desk.new.out.now) (goes desk.new.out.now) }
 {
     let many = bits::count(own) as usize;
     let (spare, sets) = rest.split_at_mut(0);
@@ -42,9 +37,7 @@ pub fn level(
         None,
         sets,
         spare,
-        out,
-        queue,
-        escapes,
+        desk,
         &mut effort,
     );
 }

@@ -16,6 +16,7 @@ pub mod by_parts;
 pub mod claim;
 pub mod closed;
 mod components;
+pub mod desk;
 pub mod dominion;
 pub mod examination;
 pub mod flaw;

@@ -7,11 +7,13 @@ ghost use Rattle.endless.specs.Sides.{number};
 ghost use Rattle.endless.specs.Bits.{members};
 ghost use Rattle.endless.specs.View.{Playable};
 ghost use Rattle.endless.specs.Pulling.{Unchanged};
+ghost use Rattle.endless.specs.Desks.{SameDesk};
 ghost use Rattle.endless.specs.Layout.{Fresh};
 ghost use Rattle.endless.specs.Reaching.{Handed, Reaches, ReachPost};
 
 use crate::answer::PlaceId;
 use crate::attractor::attract;
+use crate::desk::Desk;
 use crate::gather::give;
 use crate::graph::Graph;
 use crate::layout::Layout;
@@ -63,32 +65,30 @@ fn divide_game<'a>(
         all,
         ..
     } = layout::lay_out(words, work);
-    divide(&graph, winner, target, all, out, queue, escapes);
+    let mut desk = Desk {
+        out,
+        queue,
+        escapes,
+    };
+    divide(&graph, winner, target, all, &mut desk);
 }
 
 /// Gives the places from which `winner` can bring every play to `target` to
 /// it, and the others to the other side; `left`, at first all places, becomes
 /// these.
-fn divide(
-    graph: &Graph,
-    winner: Side,
-    target: u32,
-    left: &mut [u32],
-    out: &mut [u32],
-    queue: &mut [u32],
-    escapes: &mut [u32],
-)
+fn divide(graph: &Graph, winner: Side, target: u32, left: &mut [u32], desk: &mut Desk)
     requires playable { Playable graph.now }
     requires target { target < length graph.now }
-    requires fresh { Fresh graph.now left.old out.old queue.old escapes.old }
-    ensures frame { (n : ℕ) → length graph.now ≤ n → Unchanged out.old out.new n }
-    ensures reaches { Reaches graph.now (number winner) target (side out.new) (goes out.new) }
+    requires fresh { Fresh graph.now left.old desk.old }
+    ensures same { SameDesk desk.old desk.new }
+    ensures frame { (n : ℕ) → length graph.now ≤ n → Unchanged desk.old.out.now desk.new.out.now n }
+    ensures reaches { Reaches graph.now (number winner) target (side desk.new.out.now) (goes desk.new.out.now) }
 {
-    give(graph, winner, target, left, out);
+    give(graph, winner, target, left, desk.out);
     bits::remove(left, target);
-    queue[0] = target;
-    attract(graph, winner, left, out, queue, escapes, 1);
-    give_all(graph, winner.other(), left, out);
+    desk.queue[0] = target;
+    attract(graph, winner, left, desk, 1);
+    give_all(graph, winner.other(), left, desk.out);
 }
 
 /// Gives each place of the set to `side`, with a move of it that stays in the

@@ -1,17 +1,19 @@
-use Rattle.std.proofs.Common.{◌≡◌, ℕ, List, Option, length, option_copied, option_map, unwrap_or, sym, refl, ap, ◌∙◌, subst, arith}
+use Rattle.std.proofs.Common.{◌≡◌, ℕ, List, Option, length, option_copied, option_map, unwrap_or, sym, refl, ap, ◌∙◌, subst, arith, rules}
 use Rattle.endless.specs.Games.{other}
 use Rattle.endless.specs.Says.{side, goes}
 use Rattle.endless.specs.Subgames.{Solves}
 use Rattle.endless.specs.Bits.{members}
 use Rattle.endless.specs.Sides.{number}
 use Rattle.endless.specs.Pulling.{Unchanged}
+use Rattle.endless.specs.Desks.{SameDesk}
+use Rattle.endless.specs.declared.desk.Desk.{Desk}
 use Rattle.endless.specs.Levels.{Peels}
 use Rattle.endless.proofs.Readers.{number_below}
 use Rattle.endless.proofs.Places.{other_below, not_other}
 use Rattle.endless.proofs.Tests.{T_true}
 use Rattle.endless.proofs.SetLaws.{members_below}
 use Rattle.endless.proofs.Picking.{told_in}
-use Rattle.endless.proofs.Levels.{room_now, room_lent, room_set, room_light, room_below, leveling_more, leveling_all, solves_none}
+use Rattle.endless.proofs.Levels.{room_now, room_lent, room_set, room_light, room_below, desk_then, desk_none, leveling_more, leveling_all, solves_none}
 use Rattle.endless.proofs.by_parts.+level_by_parts.Goals as goal
 use Rattle.endless.proofs.by_parts.+level_by_parts.Goals.{then-below-gt0, else-below-gt0}
 
@@ -31,7 +33,7 @@ pub save-beyond-requires : goal.save-beyond-requires
 save-beyond-requires t c = λ k e. let fits = rw e at c.take_part-count.ensures.fits in (omega (arith, c.take_part-count.ensures.taken.few k e, c.loop-remaining.invariant.2.queues), omega (arith, fits))
 
 pub bring_about_part-weight-requires-clause-lent : goal.bring_about_part-weight-requires-clause-lent
-bring_about_part-weight-requires-clause-lent t c = room_lent c.loop-remaining.invariant.2 (omega arith) (omega arith) (omega arith)
+bring_about_part-weight-requires-clause-lent t c = room_lent c.loop-remaining.invariant.2 (search rules)
 
 pub bring_about_part-weight-requires-clause-part : goal.bring_about_part-weight-requires-clause-part
 bring_about_part-weight-requires-clause-part t c = c.take_part-count.ensures.taken.listed (option_copied c.save-beyond.result.0) c.save-beyond.ensures
@@ -51,7 +53,7 @@ level_by_parts-requires t c =
     let brought = c.bring_about_part-weight.ensures.brought room.subgame closed in (
       omega (arith, c.decreases, room_light c.take_part-count.new.part room closed heavy),
       (
-        room_below c.take_part-count.new.part room closed heavy brought (omega (arith, c.split_at_mut-left.ensures.front_len)) (omega (arith, c.split_at_mut-left.ensures.back_len)) (omega arith) (omega arith) (omega arith),
+        room_below c.take_part-count.new.part room closed heavy brought (omega (arith, c.split_at_mut-left.ensures.front_len)) (omega (arith, c.split_at_mut-left.ensures.back_len)) (search rules),
         (
           c.bring_about_part-weight.ensures.rest,
           (
@@ -63,13 +65,24 @@ level_by_parts-requires t c =
     )
 
 pub peel_part-remaining-requires-clause-lent : goal.peel_part-remaining-requires-clause-lent
-peel_part-remaining-requires-clause-lent t c = room_lent c.loop-remaining.invariant.2 (omega arith) (omega arith) (omega arith)
+peel_part-remaining-requires-clause-lent t c =
+    let taken : SameDesk c.loop-remaining.desk c.bring_about_part-weight.new.desk = search rules in
+    let below : SameDesk c.bring_about_part-weight.new.desk c.if-below-gt0.desk = elim c.if-below-gt0.branch [
+      | then-below-gt0 w ↦ rw w.desk-is w.level_by_parts.ensures.same
+      | else-below-gt0 w ↦ rw w.desk-is (desk_none _)
+    ] in
+    room_lent c.loop-remaining.invariant.2 (desk_then taken below)
 
 pub peel_part-remaining-requires-clause-part : goal.peel_part-remaining-requires-clause-part
 peel_part-remaining-requires-clause-part t c = (members c.take_part-count.new.part, c.take_part-count.ensures.taken.listed (option_copied c.save-beyond.result.0) c.save-beyond.ensures)
 
 pub loop-remaining-preserved : goal.loop-remaining-preserved
 loop-remaining-preserved t c =
+    let taken : SameDesk c.loop-remaining.desk c.bring_about_part-weight.new.desk = search rules in
+    let below : SameDesk c.bring_about_part-weight.new.desk c.if-below-gt0.desk = elim c.if-below-gt0.branch [
+      | then-below-gt0 w ↦ rw w.desk-is w.level_by_parts.ensures.same
+      | else-below-gt0 w ↦ rw w.desk-is (desk_none _)
+    ] in
     let room = c.loop-remaining.invariant.2 in
     let closed = c.take_part-count.ensures.taken.closed in
     let heavy = c.bring_about_part-weight.ensures.heaviest (c.take_part-count.ensures.taken.some_place (omega (arith, c.loop-remaining.invariant.1))) in
@@ -77,7 +90,7 @@ loop-remaining-preserved t c =
     (record {
       playable = c.requires.playable;
       sides = (omega arith, other_below (number c.of_weight.result), λ e. not_other (number c.of_weight.result) (other (number c.of_weight.result)) (number_below c.of_weight.result) (e ∙ c.of_weight.ensures) refl, refl);
-      lengths = (omega arith, omega arith, omega arith);
+      lengths = (taken.out_long, below.out_long, c.peel_part-remaining.ensures.same.out_long);
       inside = λ n x. closed.within n ((c.bring_about_part-weight.ensures.brought room.subgame closed).within n x);
       less = c.peel_part-remaining.ensures.less;
       closed = closed;
@@ -85,18 +98,19 @@ loop-remaining-preserved t c =
       first_frame = λ n x. c.bring_about_part-weight.ensures.frame n (λ y. x (closed.within n y));
       brought = λ sub. c.bring_about_part-weight.ensures.brought sub closed;
       second_frame = elim c.if-below-gt0.branch [
-        | then-below-gt0 w ↦ λ n x. subst (λ (o : List ℕ). Unchanged c.bring_about_part-weight.new.out o n) (sym w.out-is) (w.level_by_parts.ensures.frame n x)
-        | else-below-gt0 w ↦ λ n x. subst (λ (o : List ℕ). Unchanged c.bring_about_part-weight.new.out o n) (sym w.out-is) (refl, refl)
+        | then-below-gt0 w ↦ λ n x. subst (λ (d : Desk). Unchanged c.bring_about_part-weight.new.desk.out.now d.out.now n) (sym w.desk-is) (w.level_by_parts.ensures.frame n x)
+        | else-below-gt0 w ↦ λ n x. subst (λ (d : Desk). Unchanged c.bring_about_part-weight.new.desk.out.now d.out.now n) (sym w.desk-is) (refl, refl)
       ];
       solved = elim c.if-below-gt0.branch [
-        | then-below-gt0 w ↦ λ sub. subst (λ (o : List ℕ). Solves c.args.graph.now (members c.bring_about_part-weight.new.left) (side o) (goes o)) (sym w.out-is) (w.level_by_parts.ensures.solves sub)
-        | else-below-gt0 w ↦ solves_none c.args.graph.now c.bring_about_part-weight.new.left c.if-below-gt0.out (omega (arith, c.bring_about_part-weight.ensures.rest, w.if-below-gt0.false))
+        | then-below-gt0 w ↦ λ sub. subst (λ (d : Desk). Solves c.args.graph.now (members c.bring_about_part-weight.new.left) (side d.out.now) (goes d.out.now)) (sym w.desk-is) (w.level_by_parts.ensures.solves sub)
+        | else-below-gt0 w ↦ solves_none c.args.graph.now c.bring_about_part-weight.new.left c.if-below-gt0.desk.out.now (omega (arith, c.bring_about_part-weight.ensures.rest, w.if-below-gt0.false))
       ];
       third_frame = c.peel_part-remaining.ensures.frame;
-      peels = λ sub. subst (λ (w : ℕ). Peels c.args.graph.now (members c.loop-remaining.own) (members c.take_part-count.new.part) w (other (number c.of_weight.result)) (members c.peel_part-remaining.new.own) c.if-below-gt0.out c.peel_part-remaining.new.out) (sym c.of_weight.ensures)
+      peels = λ sub. subst (λ (w : ℕ). Peels c.args.graph.now (members c.loop-remaining.own) (members c.take_part-count.new.part) w (other (number c.of_weight.result)) (members c.peel_part-remaining.new.own) c.if-below-gt0.desk.out.now c.peel_part-remaining.new.desk.out.now) (sym c.of_weight.ensures)
           (c.peel_part-remaining.ensures.peels (members c.take_part-count.new.part) sub (c.take_part-count.ensures.taken.listed (option_copied c.save-beyond.result.0) c.save-beyond.ensures));
     }) in
-    (leveling, c.peel_part-remaining.ensures.rest, room_now c.requires.room leveling (omega arith) (omega arith) (omega arith) (omega arith) (omega arith))
+    let same = desk_then c.loop-remaining.invariant.3 (desk_then taken (desk_then below c.peel_part-remaining.ensures.same)) in
+    (leveling, c.peel_part-remaining.ensures.rest, room_now c.requires.room leveling (omega arith) (omega arith) same, same)
 
 pub returns-clause-solves : goal.returns-clause-solves
 returns-clause-solves t c = leveling_all (omega (arith, c.loop-remaining.invariant.1)) c.loop-remaining.invariant.0

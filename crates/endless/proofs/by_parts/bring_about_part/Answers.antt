@@ -27,14 +27,17 @@ attract_counted-taken-requires c =
 pub overflow_sub-result : goal.overflow_sub-result
 overflow_sub-result c = omega (arith, c.part_size-all.ensures, c.requires.counted, c.gather_targets-targets.ensures.counts, c.attract_counted-taken.ensures.moved.counts)
 
-pub returns : goal.returns
-returns c =
+pub returns-clause-rest : goal.returns-clause-rest
+returns-clause-rest c = omega (arith, c.part_size-all.ensures, c.requires.counted, c.gather_targets-targets.ensures.counts, c.attract_counted-taken.ensures.moved.counts)
+
+pub returns-clause-heaviest : goal.returns-clause-heaviest
+returns-clause-heaviest c = c.heaviest_in-weight.ensures
+
+pub returns-clause-frame : goal.returns-clause-frame
+returns-clause-frame c = λ n x. then_unchanged c.args.desk.now.out.now c.gather_targets-targets.new.out c.attract_counted-taken.new.desk.out.now n (c.gather_targets-targets.ensures.frame n x) (c.attract_counted-taken.ensures.moved.frame n (λ y. absurd (x (c.gather_targets-targets.ensures.gathered.starts.rest n y))))
+
+pub returns-clause-brought : goal.returns-clause-brought
+returns-clause-brought c = λ sub closed.
     let ga = c.gather_targets-targets.ensures.gathered in
-    record {
-      rest = omega (arith, c.part_size-all.ensures, c.requires.counted, c.gather_targets-targets.ensures.counts, c.attract_counted-taken.ensures.moved.counts);
-      heaviest = c.heaviest_in-weight.ensures;
-      frame = λ n x. then_unchanged c.args.out.now c.gather_targets-targets.new.out c.attract_counted-taken.new.out n (c.gather_targets-targets.ensures.frame n x) (c.attract_counted-taken.ensures.moved.frame n (λ y. absurd (x (ga.starts.rest n y))));
-      brought = λ sub closed.
-          subst (λ (w : ℕ). Brought c.args.graph.now (members c.args.left.now) w c.heaviest_in-weight.result (members c.attract_counted-taken.new.left) c.attract_counted-taken.new.out) (sym c.of_weight-side.ensures)
-          (brought_in sub closed (omega arith) ga c.attract_counted-taken.ensures.moved (c.attract_counted-taken.ensures.attracts (members c.args.left.now) _ (closed_subgame sub closed) ga.starts));
-    }
+    subst (λ (w : ℕ). Brought c.args.graph.now (members c.args.left.now) w c.heaviest_in-weight.result (members c.attract_counted-taken.new.left) c.attract_counted-taken.new.desk.out.now) (sym c.of_weight-side.ensures)
+    (brought_in sub closed (omega arith) ga c.attract_counted-taken.ensures.moved (c.attract_counted-taken.ensures.attracts (members c.args.left.now) _ (closed_subgame sub closed) ga.starts))

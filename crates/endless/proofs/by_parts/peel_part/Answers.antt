@@ -1,4 +1,4 @@
-use Rattle.std.proofs.Common.{ℕ, List, sym, ◌∙◌, subst, inl, inr, arith}
+use Rattle.std.proofs.Common.{ℕ, List, sym, ◌∙◌, subst, inl, inr, arith, rules}
 use Rattle.std.specs.Prelude.{option_copied}
 use Rattle.endless.specs.Subgames.{Subgame}
 use Rattle.endless.specs.Bits.{members}
@@ -37,10 +37,11 @@ returns-then-lost-eq0 c =
       rest = ends.rest;
       falls = λ h. omega (arith, c.gather_lost-lost.ensures.counts, ends.falls (omega (arith, c.gather_lost-lost.ensures.counts)));
       less = λ n x. starts.rest n (ends.less n x);
+      same = search rules;
       frame = λ n x. ends.frame n (λ y. x (starts.rest n y));
       peels = λ R sub part. inl (
-        λ n u e. none_lost R c.args.out.now c.if-lost-eq0.true (c.gather_lost-lost.ensures.starts R part) n u (e ∙ sym c.other-loser.ensures),
-        subst (λ (l : List ℕ). Peeled c.args.graph.now (members l) (number c.args.winner) R (members c.peel_won.new.own) c.args.out.now c.peel_won.new.out) same
+        λ n u e. none_lost R c.args.desk.now.out.now c.if-lost-eq0.true (c.gather_lost-lost.ensures.starts R part) n u (e ∙ sym c.other-loser.ensures),
+        subst (λ (l : List ℕ). Peeled c.args.graph.now (members l) (number c.args.winner) R (members c.peel_won.new.own) c.args.desk.now.out.now c.peel_won.new.desk.out.now) same
             (ends.peeled R (subst (λ (l : List ℕ). Subgame c.args.graph.now (members l)) (sym same) sub) (subst (λ (l : List ℕ). Part l (option_copied c.args.list) R) (sym same) part)),
       );
     }
@@ -68,9 +69,10 @@ returns-else-lost-eq0 c =
       rest = omega (arith, c.requires.counted, c.gather_lost-lost.ensures.counts, c.attract_counted-taken.ensures.moved.counts);
       falls = λ h. omega (arith, c.gather_lost-lost.ensures.counts, c.attract_counted-taken.ensures.moved.counts, c.attract_counted-taken.ensures.moved.grows);
       less = λ n x. starts.rest n (c.attract_counted-taken.ensures.moved.less n x);
+      same = search rules;
       frame = λ n x. c.attract_counted-taken.ensures.moved.frame n (λ y. absurd (x (starts.rest n y)));
       peels = λ R sub part.
           let here = c.gather_lost-lost.ensures.starts R part in
-          subst (λ (q : ℕ). Peels c.args.graph.now (members c.args.own.now) R (number c.args.winner) q (members c.attract_counted-taken.new.left) c.args.out.now c.attract_counted-taken.new.out) c.other-loser.ensures
+          subst (λ (q : ℕ). Peels c.args.graph.now (members c.args.own.now) R (number c.args.winner) q (members c.attract_counted-taken.new.left) c.args.desk.now.out.now c.attract_counted-taken.new.desk.out.now) c.other-loser.ensures
           (inr (peeled_of here c.attract_counted-taken.ensures.moved (c.attract_counted-taken.ensures.attracts (members c.args.own.now) _ sub here)));
     }

@@ -1,4 +1,4 @@
-use Rattle.std.proofs.Common.{sym, refl, ap, ◌∙◌, arith}
+use Rattle.std.proofs.Common.{sym, refl, ap, ◌∙◌, arith, rules}
 use Rattle.std.specs.Prelude.{option_copied}
 use Rattle.std.proofs.lemmas.Bool.{both_ways}
 use Rattle.endless.specs.Bits.{members}
@@ -16,8 +16,9 @@ returns-in-None c = record {
   rest = sym c.clear.ensures;
   falls = λ h. omega (arith, c.clear.ensures);
   less = λ n x. absurd (both_ways _ (size_none c.clear.new.set c.clear.ensures n) (T_true _ x));
+  same = search rules;
   frame = λ n x. (refl, refl);
-  peeled = λ R sub part. peeled_whole c.args.graph.now (members c.args.own.now) R (number c.args.winner) (members c.clear.new.set) c.args.out.now part.within (part.whole (ap option_copied c.in-None.is)) (λ n x. both_ways _ (size_none c.clear.new.set c.clear.ensures n) (T_true _ x));
+  peeled = λ R sub part. peeled_whole c.args.graph.now (members c.args.own.now) R (number c.args.winner) (members c.clear.new.set) c.args.desk.now.out.now part.within (part.whole (ap option_copied c.in-None.is)) (λ n x. both_ways _ (size_none c.clear.new.set c.clear.ensures n) (T_true _ x));
 }
 
 pub gather_listed-targets-requires-clause-answers : goal.gather_listed-targets-requires-clause-answers
@@ -49,6 +50,7 @@ returns-in-Some c =
       rest = omega (arith, c.requires.counted, c.gather_listed-targets.ensures.counts, c.attract_counted-taken.ensures.moved.counts);
       falls = λ h. omega (arith, (starts.all _ (having_in r.0 _ _ _ (r.1.some_place h).1 refl)).1, c.gather_listed-targets.ensures.counts, c.attract_counted-taken.ensures.moved.counts, c.attract_counted-taken.ensures.moved.grows);
       less = λ n x. starts.rest n (c.attract_counted-taken.ensures.moved.less n x);
+      same = search rules;
       frame = λ n x. c.attract_counted-taken.ensures.moved.frame n (λ y. absurd (x (starts.rest n y)));
       peeled = λ R sub part.
           let here = starts_as (members c.args.own.now) _ R _ _ _ (having_within R _ _) (λ n x. having_in R _ _ n x refl) (c.gather_listed-targets.ensures.starts R part.within (part.told _ (ap option_copied c.in-Some.is))) in

@@ -1,4 +1,4 @@
-use Rattle.std.proofs.Common.{ℕ, ◌*◌, length, ap, ◌∙◌, subst, arith}
+use Rattle.std.proofs.Common.{ℕ, ◌*◌, List, length, refl, ap, ◌∙◌, subst, arith, rules}
 use Rattle.endless.specs.Games.{Game}
 use Rattle.endless.specs.Says.{side, goes}
 use Rattle.endless.specs.Sets.{whole}
@@ -14,7 +14,7 @@ level_by_parts-requires-clause-room c =
     let laid = c.lay_out-graph.result in
     let reads = laid_reads laid p.1 (c.lay_out-graph.ensures p.0 p.1) in
     first_room laid _ _ reads (c.lay_out-graph.ensures laid.graph reads)
-    (omega (arith, places_are c.args.words.now p.0 p.1, places_are c.args.words.now laid.graph reads, p.2))
+    (omega (arith, places_are c.args.words.now p.0 p.1, places_are c.args.words.now laid.graph reads, p.2)) refl refl
     (c.split_at_mut-sets.ensures.front_len ∙ ap (λ (k : ℕ). k * length laid.all.now) (c.levels.ensures laid.graph reads))
 
 pub level_by_parts-requires-clause-playable : goal.level_by_parts-requires-clause-playable
@@ -25,9 +25,9 @@ level_by_parts-requires-clause-playable c =
 pub returns-clause-solves : goal.returns-clause-solves
 returns-clause-solves c = λ g r.
     let laid = c.lay_out-graph.result in
-    let out = c.level_by_parts.new.out in
     let is = c.lay_out-graph.ensures g r in
     let reads = laid_reads laid r is in
     let are = (c.lay_out-graph.ensures laid.graph reads).are in
-    subst (λ (g : Game). Solves g (whole g) (side out) (goes out)) is.is
-    (filled_solved laid.graph laid.all.now are out (c.level_by_parts.ensures.solves (filled_subgame laid.graph laid.all.now are reads)))
+    let out = c.level_by_parts.new.desk.out.now in
+    let solved : Solves laid.graph (whole laid.graph) (side out) (goes out) = filled_solved laid.graph laid.all.now are out (c.level_by_parts.ensures.solves (filled_subgame laid.graph laid.all.now are reads)) in
+    subst (λ (o : List ℕ). Solves g (whole g) (side o) (goes o)) (search rules) (subst (λ (g : Game). Solves g (whole g) (side out) (goes out)) is.is solved)

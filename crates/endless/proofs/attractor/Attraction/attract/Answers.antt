@@ -3,7 +3,7 @@ use Rattle.endless.proofs.Queueing.{queueing_none, queueing_more, queueing_all}
 use Rattle.endless.proofs.attractor.Attraction.attract.Goals as goal
 
 pub queue-init : goal.queue-init
-queue-init c = (queueing_none (record { graph = refl; side = refl; left = refl; out = refl; queue = refl }), c.requires.counted)
+queue-init c = (queueing_none (record { graph = refl; side = refl; left = refl; out = refl; queue = refl; escapes = refl; out_long = refl; queue_long = refl; escapes_long = refl }), c.requires.counted)
 
 pub queue-preserved : goal.queue-preserved
 queue-preserved c = (queueing_more c.queue.invariant.0 (omega arith) c.pull_all.ensures.same c.pull_all.ensures.moves c.pull_all.ensures.looks, c.queue.invariant.1)
