@@ -51,6 +51,8 @@ fn escapes_from(graph: &Graph, place: u32, left: &[u32], escapes: &mut [u32]) ->
 
 /// An attractor that is being made: what is left of a subgame, the answer so
 /// far, and the places that are attracted, in the order in which they were.
+// The fields of the desk, and not the desk: tried, and behind a second
+// reference how long the queue may be is not known, so `tail` might wrap.
 #[derive(Drop)]
 struct Attraction<'g, 'r> {
     graph: &'g Graph<'g>,
@@ -58,7 +60,6 @@ struct Attraction<'g, 'r> {
     left: &'r mut [u32],
     out: &'r mut [u32],
     queue: &'r mut [u32],
-    /// For each place the move by which it was last found to escape.
     escapes: &'r mut [u32],
     tail: usize,
     ghost sized: { Sized graph.now left.now out.now escapes.now },

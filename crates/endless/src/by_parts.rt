@@ -102,6 +102,7 @@ fn peel_won(
 {
     match list {
         Some(list) => {
+            // As `&` the answer cannot be lent beside the queue: tried, no rule.
             let targets = gather_listed(None, list, own, &mut *desk.out, desk.queue);
             let taken = attract_counted(graph, winner, own, desk, targets, many);
             many - taken
@@ -136,6 +137,7 @@ fn peel_part(
     ensures peels { (R : Set) → Subgame graph.now (members own.old) → Part own.old (option_copied list.entry) R → Peels graph.now (members own.old) R (number winner) (other (number winner)) (members own.new) desk.old.out.now desk.new.out.now }
 {
     let loser = winner.other();
+    // As `&` the answer cannot be lent beside the queue: tried, no rule.
     let lost = gather_lost(loser, list, own, &mut *desk.out, desk.queue);
     if lost == 0 {
         peel_won(graph, winner, many, list, own, desk)
