@@ -33,11 +33,11 @@ module _ (g : Game) (own : List ℕ) (are : (j : ℕ) → members own j ≡ ltb 
   filled_subgame r = subgame_as (whole g) (members own) whole_filled filled_whole (whole_subgame r)
 
 -- the graph that is laid out is the game
-pub laid_reads : {s : List ℕ} {g : Game} (r : Layout) → Reads s g → LaidOut g r → Reads s r.graph
+pub laid_reads : {s : List ℕ} {lent : ℕ} {g : Game} (r : Layout) → Reads s g → LaidOut lent g r → Reads s r.graph
 laid_reads {s} r reads laid = subst (Reads s) (sym laid.is) reads
 
 -- what is laid out is enough to begin with
-pub laid_fresh : {s : List ℕ} {g : Game} (r : Layout) (desk : Desk) → Reads s g → LaidOut g r → 2 * length g ≤ length desk.out.now → desk.queue.now ≡ r.queue.now → desk.escapes.now ≡ r.escapes.now → Fresh g r.all.now desk
+pub laid_fresh : {s : List ℕ} {lent : ℕ} {g : Game} (r : Layout) (desk : Desk) → Reads s g → LaidOut lent g r → 2 * length g ≤ length desk.out.now → desk.queue.now ≡ r.queue.now → desk.escapes.now ≡ r.escapes.now → Fresh g r.all.now desk
 laid_fresh {s} {g} r desk reads laid answers q e =
     let most = (ok_size _ g reads).1 in
     let w : 32 * width (length g) ≤ length g + 31 = omega arith in
@@ -50,7 +50,7 @@ laid_fresh {s} {g} r desk reads laid answers q e =
     }
 
 -- and the first level has its room
-pub first_room : {s : List ℕ} {g : Game} (r : Layout) (sets : List ℕ) (desk : Desk) → Reads s g → LaidOut g r → 2 * length g ≤ length desk.out.now → desk.queue.now ≡ r.queue.now → desk.escapes.now ≡ r.escapes.now → length sets ≡ kinds g * length r.all.now → Room g 256 r.all.now sets desk
+pub first_room : {s : List ℕ} {lent : ℕ} {g : Game} (r : Layout) (sets : List ℕ) (desk : Desk) → Reads s g → LaidOut lent g r → 2 * length g ≤ length desk.out.now → desk.queue.now ≡ r.queue.now → desk.escapes.now ≡ r.escapes.now → length sets ≡ kinds g * length r.all.now → Room g 256 r.all.now sets desk
 first_room {s} {g} r sets desk reads laid answers q e long =
     let f = laid_fresh r desk reads laid answers q e in
     record {

@@ -41,9 +41,10 @@ Accepts s lent (Err NoGame) = (65536 + 4 * length s ≤ lent) × ((g : Game) →
 Accepts s lent (Err NoPlace) = ⊥
 Accepts s lent (Err OutFull) = ⊥
 
--- a game is laid out: its graph, room for its queue and its cursors, the set of all places, and room for a set for each level
-pub record LaidOut (g : Game) (r : Layout) : Type 0 where
+-- a game is laid out in so many lent words: its graph, room for its queue and its cursors, the set of all places, and room for a set for each level; these parts take what is needed, and no more
+pub record LaidOut (lent : ℕ) (g : Game) (r : Layout) : Type 0 where
   pub is : r.graph ≡ g
+  pub taken : needed (length g) (edges g) 0 + length r.rest.now ≡ lent
   pub queue : length g ≤ length r.queue.now
   pub escapes : length g ≤ length r.escapes.now
   pub are : (j : ℕ) → members r.all.now j ≡ nat_lt j (length g)

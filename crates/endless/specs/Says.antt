@@ -1,4 +1,4 @@
--- The theorems about games, as types, and what the public calls promise.
+-- The theorems about games, as types, and how an answer tells sides and moves.
 use Rattle.std.specs.Prelude.{◌≡◌, ℕ, ◌+◌, ◌*◌, ◌<◌, ◌≤◌, Bool, T, ◌↔◌, List, [], ◌∷◌, length, ◌≢◌}
 use Rattle.endless.specs.Games.{nth, opt, Game, Reads, whose, weight, May, Play, Plays, ByPlan, Heaviest, Wins, other}
 

@@ -67,7 +67,7 @@ pub struct Layout<'a> {
 /// Cuts the lent words for a game, and makes its graph there.
 pub fn lay_out<'a>(words: &'a [u32], work: &'a mut [u32]) -> Layout<'a>
     requires { (g : Game) × Reads words.now g × (65536 + 4 * length words.now ≤ length work.old) }
-    ensures { (g : Game) → Reads words.now g → LaidOut g result }
+    ensures { (g : Game) → Reads words.now g → LaidOut (length work.old) g result }
 {
     let places = words[0] as usize;
     let moves = words.len() - 1 - 3 * places;

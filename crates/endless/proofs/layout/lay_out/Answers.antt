@@ -34,6 +34,7 @@ returns c = λ g r.
     let long = words_length c.args.words.now g r in
     record {
       is = c.new-graph.ensures ∙ c.new-view.ensures g r;
+      taken = omega (arith, here, long, c.div_ceil.ensures);
       queue = omega arith;
       escapes = omega arith;
       are = λ j. c.fill.ensures.are j ∙ ap (ltb j) here;
