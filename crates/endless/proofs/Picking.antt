@@ -11,7 +11,10 @@ use Rattle.endless.specs.Says.{side, goes}
 use Rattle.endless.specs.Sets.{Set, In, Out, Within, having}
 use Rattle.endless.specs.Bits.{members, size, Removed}
 use Rattle.endless.specs.Pulling.{Passed, Unchanged, Starts}
+use Rattle.endless.specs.Sides.{number}
 use Rattle.endless.specs.Levels.{HeaviestIn, HeaviestOf, GatheredIn, Stays, Taken, TakenIf}
+use Rattle.endless.specs.Gatherings.{SameGathering, Takes}
+use Rattle.endless.specs.declared.gather.Gathering.{Gathering}
 use Rattle.endless.specs.Parts.{Told, Covers, Gives, PickedIf}
 use Rattle.endless.proofs.Tests.{T_true, true_T}
 use Rattle.endless.proofs.SetLaws.{size_some}
@@ -218,6 +221,13 @@ module _ {g : Game} {w h : ℕ} {own part out list : List ℕ} {i : ℕ} {left q
     where
       starts : Starts (members part) (having (members part) (weight g) h) left queue count
       starts = picking_all so_far.picks (members part) end (λ n x. x) covers (λ n x p. x)
+
+-- a gathering that goes on
+pub gathering_then : {a b c : Gathering} → SameGathering a b → SameGathering b c → SameGathering a c
+gathering_then s t = record { graph = t.graph ∙ s.graph; side = t.side ∙ s.side; heaviest = t.heaviest ∙ s.heaviest; own = t.own ∙ s.own; left = t.left ∙ s.left; out = t.out ∙ s.out; queue = t.queue ∙ s.queue; queue_long = t.queue_long ∙ s.queue_long }
+
+pub taken_so : {a b : Gathering} (c : Gathering) {place : ℕ} → SameGathering a b → Takes b place c → TakenIf a.graph.now (number a.side) a.heaviest place (members a.own.now) b.count b.left.now b.queue.now b.out.now c.left.now c.queue.now c.out.now c.count
+taken_so c s t = rw (← s.graph, ← s.side, ← s.heaviest, ← s.own) t
 
 -- ---- the same targets, told otherwise
 pub starts_as : (U D E : Set) (l q : List ℕ) (k : ℕ) → Within D E → Within E D → Starts U D l q k → Starts U E l q k

@@ -18,6 +18,7 @@ pub mod Pulling
 pub mod Desks
 pub mod Attraction
 pub mod Levels
+pub mod Gatherings
 pub mod Parts
 pub mod Layout
 pub mod Reaching

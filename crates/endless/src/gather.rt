@@ -51,28 +51,6 @@ pub(crate) fn give(graph: &Graph, side: Side, place: u32, set: &[u32], out: &mut
     out[2 * place as usize + 1] = move_within(graph, place, set);
 }
 
-/// Takes a place from what is left into the queue, and gives it to `side`
-/// with a move of it that stays in `own`.
-fn take_place(
-    graph: &Graph,
-    side: Side,
-    place: u32,
-    own: &[u32],
-    left: &mut [u32],
-    out: &mut [u32],
-    queue: &mut [u32],
-    count: usize,
-)
-    requires place { place < length graph.now }
-    requires fitting { Fitting graph.now own.now left.old out.old }
-    requires room { count < length queue.old }
-    ensures { Taken graph.now (number side) place (members own.now) count left.old queue.old out.old left.new queue.new out.new }
-{
-    bits::remove(left, place);
-    give(graph, side, place, own, out);
-    queue[count] = place;
-}
-
 /// The heaviest weight of a part, told by a list of its places, if there is
 /// one.
 pub(crate) fn heaviest_in(graph: &Graph, list: Option<&[u32]>, part: &[u32]) -> u32
@@ -87,62 +65,63 @@ pub(crate) fn heaviest_in(graph: &Graph, list: Option<&[u32]>, part: &[u32]) -> 
     }
 }
 
-/// Takes a place as `take_place` does, where it is left and has the weight.
-/// The number of places in the queue then.
-fn take_heavy(
-    graph: &Graph,
+/// Places of a weight that are being gathered into the queue: what is left of
+/// a part, from which they are taken, the answer, which gives them to `side`
+/// with a move of each that stays in `own`, and how many stand in the queue.
+#[derive(Drop)]
+struct Gathering<'g, 'r> {
+    graph: &'g Graph<'g>,
     side: Side,
     heaviest: u32,
-    place: u32,
-    own: &[u32],
-    left: &mut [u32],
-    out: &mut [u32],
-    queue: &mut [u32],
+    own: &'g [u32],
+    left: &'r mut [u32],
+    out: &'r mut [u32],
+    queue: &'r mut [u32],
     count: usize,
-) -> usize
-    requires place { place < length graph.now }
-    requires fitting { Fitting graph.now own.now left.old out.old }
-    requires room { count + size left.old ≤ length queue.old }
-    requires few { count ≤ 32 * length own.now }
-    ensures { TakenIf graph.now (number side) heaviest place (members own.now) count left.old queue.old out.old left.new queue.new out.new result }
-{
-    if !bits::has(left, place) {
-        return count;
-    }
-    if graph.weight(place) != heaviest {
-        return count;
-    }
-    take_place(graph, side, place, own, left, out, queue, count);
-    count + 1
+    ghost fitting: { Fitting graph.now own.now left.now out.now },
+    ghost room: { count + size left.now ≤ length queue.now },
 }
 
-/// Puts the places of a weight into the queue, each given to `side` with a
-/// move of it that stays in `own`; `left`, of which these are all places,
-/// becomes the others.
-fn gather_heaviest<I: Iterator<Item = u32> + Drop>(
-    graph: &Graph,
-    side: Side,
-    heaviest: u32,
-    places: I,
-    own: &[u32],
-    left: &mut [u32],
-    out: &mut [u32],
-    queue: &mut [u32],
-) -> usize
-    requires can { I.can_next places }
-    requires ends { IsFinite (I.remaining places) }
-    requires inside { (list : List ℕ) × Gives I.next_gives places list × ((j : ℕ) → j < length list → slice_index list j < length graph.now) }
-    requires fitting { Fitting graph.now own.now left.old out.old }
-    requires room { size left.old ≤ length queue.old }
-    ensures counts { result + size left.new ≡ size left.old }
-    ensures frame { (n : ℕ) → Out (members left.old) n → Unchanged out.old out.new n }
-    ensures gathered { (list : List ℕ) → Gives I.next_gives places list → Covers left.old list → GatheredIn graph.now (members left.old) (members own.now) (number side) heaviest left.new queue.new out.new result }
-{
-    let mut count = 0;
-    for place in places {
-        count = take_heavy(graph, side, heaviest, place, own, left, out, queue, count);
+impl Gathering<'_, '_> {
+    ghost use Rattle.endless.specs.Gatherings.{SameGathering, Takes};
+
+    /// Takes a place, where it is left and has the weight.
+    fn take(&mut self, place: u32)
+        requires place { place < length self.old.graph.now }
+        ensures same { SameGathering self.old self.new }
+        ensures takes { Takes self.old place self.new }
+    {
+        let left = &mut *self.left;
+        if !bits::has(left, place) {
+            return;
+        }
+        if self.graph.weight(place) != self.heaviest {
+            return;
+        }
+        bits::remove(left, place);
+        let out = &mut *self.out;
+        give(self.graph, self.side, place, self.own, out);
+        self.queue[self.count] = place;
+        self.count += 1;
     }
-    count
+
+    /// Takes those of these places that are left and have the weight, where
+    /// none stands in the queue yet. How many these are.
+    fn take_all<I: Iterator<Item = u32> + Drop>(&mut self, places: I) -> usize
+        requires can { I.can_next places }
+        requires ends { IsFinite (I.remaining places) }
+        requires inside { (list : List ℕ) × Gives I.next_gives places list × ((j : ℕ) → j < length list → slice_index list j < length self.old.graph.now) }
+        requires none { self.old.count ≡ 0 }
+        ensures same { SameGathering self.old self.new }
+        ensures counts { result + size self.new.left.now ≡ size self.old.left.now }
+        ensures frame { (n : ℕ) → Out (members self.old.left.now) n → Unchanged self.old.out.now self.new.out.now n }
+        ensures gathered { (list : List ℕ) → Gives I.next_gives places list → Covers self.old.left.now list → GatheredIn self.old.graph.now (members self.old.left.now) (members self.old.own.now) (number self.old.side) self.old.heaviest self.new.left.now self.new.queue.now self.new.out.now result }
+    {
+        for place in places {
+            self.take(place);
+        }
+        self.count
+    }
 }
 
 /// Puts the places of a weight of a part into the queue: by the list, if there
@@ -166,14 +145,21 @@ pub(crate) fn gather_targets(
     ensures frame { (n : ℕ) → Out (members left.old) n → Unchanged out.old out.new n }
     ensures gathered { GatheredIn graph.now (members left.old) (members own.now) (number side) heaviest left.new queue.new out.new result }
 {
+    let mut gathering = Gathering {
+        graph,
+        side,
+        heaviest,
+        own,
+        left,
+        out,
+        queue,
+        count: 0,
+    };
     match list {
-        Some(list) => {
-            let places = list.iter().copied();
-            gather_heaviest(graph, side, heaviest, places, own, left, out, queue)
-        }
+        Some(list) => gathering.take_all(list.iter().copied()),
         None => {
             let places = bits::iter(own);
-            gather_heaviest(graph, side, heaviest, places, own, left, out, queue)
+            gathering.take_all(places)
         }
     }
 }

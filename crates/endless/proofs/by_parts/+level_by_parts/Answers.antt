@@ -1,4 +1,4 @@
-use Rattle.std.proofs.Common.{◌≡◌, ℕ, List, Option, length, option_copied, option_map, unwrap_or, sym, refl, ap, ◌∙◌, subst, arith, rules}
+use Rattle.std.proofs.Common.{◌≡◌, ℕ, Option, length, option_copied, option_map, unwrap_or, sym, refl, ap, ◌∙◌, subst, arith, rules}
 use Rattle.endless.specs.Games.{other}
 use Rattle.endless.specs.Says.{side, goes}
 use Rattle.endless.specs.Subgames.{Solves}
