@@ -126,6 +126,8 @@ impl Gathering<'_, '_> {
 
 /// Puts the places of a weight of a part into the queue: by the list, if there
 /// is one.
+// Two slices of the desk, here and below: with the desk each contract would
+// have a clause more, that the cursors stay, for one parameter less.
 pub(crate) fn gather_targets(
     graph: &Graph,
     side: Side,
