@@ -1,4 +1,4 @@
-use Rattle.std.proofs.Common.{◌≡◌, ℕ, Option, length, option_copied, option_map, unwrap_or, sym, refl, ap, ◌∙◌, subst, arith, rules}
+use Rattle.std.proofs.Common.{ℕ, option_copied, sym, refl, ap, ◌∙◌, subst, arith, rules}
 use Rattle.endless.specs.Games.{other}
 use Rattle.endless.specs.Says.{side, goes}
 use Rattle.endless.specs.Subgames.{Solves}
@@ -13,36 +13,12 @@ use Rattle.endless.proofs.Places.{other_below, not_other}
 use Rattle.endless.proofs.Tests.{T_true}
 use Rattle.endless.proofs.SetLaws.{members_below}
 use Rattle.endless.proofs.Picking.{told_in}
-use Rattle.endless.proofs.Levels.{room_now, room_lent, room_set, room_light, room_below, desk_then, desk_none, leveling_more, leveling_all, solves_none}
+use Rattle.endless.proofs.Levels.{room_now, room_set, room_light, room_below, desk_then, desk_none, leveling_more, leveling_all, solves_none}
 use Rattle.endless.proofs.by_parts.+level_by_parts.Goals as goal
 use Rattle.endless.proofs.by_parts.+level_by_parts.Goals.{then-below-gt0, else-below-gt0}
 
 pub split_at_mut-left-requires : goal.split_at_mut-left-requires
 split_at_mut-left-requires t c = room_set c.loop-remaining.invariant.2 (omega (arith, c.loop-remaining.invariant.1))
-
-pub take_part-count-requires-clause-covers : goal.take_part-count-requires-clause-covers
-take_part-count-requires-clause-covers t c = λ list e n x. c.requires.covers list e n (c.loop-remaining.invariant.0.less n x)
-
-pub take_part-count-requires-clause-inside : goal.take_part-count-requires-clause-inside
-take_part-count-requires-clause-inside t c = λ list e j h. omega (arith, c.requires.inside list e j h)
-
-pub take_part-count-requires-clause-spacious : goal.take_part-count-requires-clause-spacious
-take_part-count-requires-clause-spacious t c = record { same = omega (arith, c.split_at_mut-left.ensures.front_len); room = omega (arith, c.loop-remaining.invariant.2.queues) }
-
-pub save-beyond-requires : goal.save-beyond-requires
-save-beyond-requires t c = λ k e. let fits = rw e at c.take_part-count.ensures.fits in (omega (arith, c.take_part-count.ensures.taken.few k e, c.loop-remaining.invariant.2.queues), omega (arith, fits))
-
-pub bring_about_part-weight-requires-clause-lent : goal.bring_about_part-weight-requires-clause-lent
-bring_about_part-weight-requires-clause-lent t c = room_lent c.loop-remaining.invariant.2 (search rules)
-
-pub bring_about_part-weight-requires-clause-part : goal.bring_about_part-weight-requires-clause-part
-bring_about_part-weight-requires-clause-part t c = c.take_part-count.ensures.taken.listed (option_copied c.save-beyond.result.0) c.save-beyond.ensures
-
-pub bring_about_part-weight-requires-clause-counted : goal.bring_about_part-weight-requires-clause-counted
-bring_about_part-weight-requires-clause-counted t c =
-    let taken = c.take_part-count.ensures.taken in
-    let long : unwrap_or (option_map length (option_copied c.save-beyond.result.0)) c.loop-remaining.remaining ≡ unwrap_or c.take_part-count.result c.loop-remaining.remaining = ap (λ (k : Option ℕ). unwrap_or k c.loop-remaining.remaining) c.save-beyond.ensures.long in
-    long ∙ ap (unwrap_or c.take_part-count.result) c.loop-remaining.invariant.1 ∙ taken.sizes
 
 pub level_by_parts-requires : goal.level_by_parts-requires
 level_by_parts-requires t c =
@@ -63,18 +39,6 @@ level_by_parts-requires t c =
         ),
       ),
     )
-
-pub peel_part-remaining-requires-clause-lent : goal.peel_part-remaining-requires-clause-lent
-peel_part-remaining-requires-clause-lent t c =
-    let taken : SameDesk c.loop-remaining.desk c.bring_about_part-weight.new.desk = search rules in
-    let below : SameDesk c.bring_about_part-weight.new.desk c.if-below-gt0.desk = elim c.if-below-gt0.branch [
-      | then-below-gt0 w ↦ rw w.desk-is w.level_by_parts.ensures.same
-      | else-below-gt0 w ↦ rw w.desk-is (desk_none _)
-    ] in
-    room_lent c.loop-remaining.invariant.2 (desk_then taken below)
-
-pub peel_part-remaining-requires-clause-part : goal.peel_part-remaining-requires-clause-part
-peel_part-remaining-requires-clause-part t c = (members c.take_part-count.new.part, c.take_part-count.ensures.taken.listed (option_copied c.save-beyond.result.0) c.save-beyond.ensures)
 
 pub loop-remaining-preserved : goal.loop-remaining-preserved
 loop-remaining-preserved t c =

@@ -1,10 +1,7 @@
 use Rattle.std.proofs.Common.{refl, arith}
 use Rattle.endless.proofs.Escapes.{move_inside}
-use Rattle.endless.proofs.Parts.{listing_none, going_below, going_more, going_all}
+use Rattle.endless.proofs.Parts.{listing_none, going_below, going_more}
 use Rattle.endless.proofs.closed.reach.Goals as goal
-
-pub spread_to-tail-requires-clause-inside : goal.spread_to-tail-requires-clause-inside
-spread_to-tail-requires-clause-inside c = omega (arith, c.requires.places c.args.start c.requires.first, c.requires.sets)
 
 pub spread_to-tail-requires-clause-lists : goal.spread_to-tail-requires-clause-lists
 spread_to-tail-requires-clause-lists c = listing_none c.clear.ensures
@@ -29,6 +26,3 @@ loop-head-preserved c = going_more (omega arith) refl c.moves.ensures.moves c.lo
 
 pub returns-clause-few : goal.returns-clause-few
 returns-clause-few c = going_below (omega (arith, c.requires.spacious.same)) c.loop-head.invariant
-
-pub returns-clause-closed : goal.returns-clause-closed
-returns-clause-closed c = going_all (omega arith) c.loop-head.invariant

@@ -1,4 +1,4 @@
-use Rattle.std.proofs.Common.{◌≡◌, ◌*◌, true, eqb, get_or, Option, sym, refl, subst, ap₂}
+use Rattle.std.proofs.Common.{◌≡◌, ◌*◌, eqb, get_or, Option, sym, subst, ap₂}
 use Rattle.endless.specs.declared.side.Side.{Side}
 use Rattle.endless.specs.Parts.{wanted, mark}
 use Rattle.endless.proofs.Working.{side_at}
@@ -8,6 +8,3 @@ pub returns-in-Some : goal.returns-in-Some
 returns-in-Some c =
     subst (λ (w : Option Side). eqb (get_or c.args.out.now (2 * c.args.place) 0) c.from.result ≡ eqb (wanted w c.args.out.now c.args.place) (mark w)) (sym c.in-Some.is)
     (ap₂ eqb (sym (side_at c.args.out.now c.args.place c.requires)) c.from.ensures)
-
-pub returns-in-None : goal.returns-in-None
-returns-in-None c = subst (λ (w : Option Side). true ≡ eqb (wanted w c.args.out.now c.args.place) (mark w)) (sym c.in-None.is) refl

@@ -5,7 +5,6 @@ use Rattle.endless.specs.Sets.{whole}
 use Rattle.endless.specs.Subgames.{Solves}
 use Rattle.endless.proofs.Reading.{places_are}
 use Rattle.endless.proofs.Layouts.{laid_reads, first_room, filled_solved, filled_subgame}
-use Rattle.endless.proofs.View.{playable}
 use Rattle.endless.proofs.layout.solve_game.Goals as goal
 
 pub level_by_parts-requires-clause-room : goal.level_by_parts-requires-clause-room
@@ -16,11 +15,6 @@ level_by_parts-requires-clause-room c =
     first_room laid _ _ reads (c.lay_out-graph.ensures laid.graph reads)
     (omega (arith, places_are c.args.words.now p.0 p.1, places_are c.args.words.now laid.graph reads, p.2)) refl refl
     (c.split_at_mut-sets.ensures.front_len ∙ ap (λ (k : ℕ). k * length laid.all.now) (c.levels.ensures laid.graph reads))
-
-pub level_by_parts-requires-clause-playable : goal.level_by_parts-requires-clause-playable
-level_by_parts-requires-clause-playable c =
-    let p = c.requires in
-    playable (laid_reads c.lay_out-graph.result p.1 (c.lay_out-graph.ensures p.0 p.1))
 
 pub returns-clause-solves : goal.returns-clause-solves
 returns-clause-solves c = λ g r.

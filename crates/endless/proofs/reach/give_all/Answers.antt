@@ -1,9 +1,9 @@
 use Rattle.std.proofs.Common.{ℕ, List, sym, ◌∙◌, subst, arith}
-use Rattle.endless.specs.Bits.{members, Least, NoneFrom}
+use Rattle.endless.specs.Bits.{members, Least}
 use Rattle.endless.specs.Sides.{number}
 use Rattle.endless.specs.Reaching.{Handed}
 use Rattle.endless.proofs.Tests.{true_T}
-use Rattle.endless.proofs.Reaching.{handed_more, handed_all}
+use Rattle.endless.proofs.Reaching.{handed_more}
 use Rattle.endless.proofs.reach.give_all.Goals as goal
 
 pub loop-place-preserved : goal.loop-place-preserved
@@ -16,6 +16,3 @@ loop-place-preserved c =
       subst (λ (i : ℕ). Handed c.args.graph.now (number c.args.side) (members c.args.set.now) i c.args.out.now c.give.new.out) (sym step.1.1)
           (handed_more c.args.set.now c.loop-place.invariant.1 least (omega (arith, here, c.requires.answers)) c.give.ensures),
     )
-
-pub returns : goal.returns
-returns c = handed_all c.args.set.now c.loop-place.invariant.1 (subst (λ (l : List ℕ). NoneFrom (members l) c.loop-place.place-iterator.from) c.loop-place.invariant.0 c.in-None.ensures.steps.1) _

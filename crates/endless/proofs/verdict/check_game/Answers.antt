@@ -6,14 +6,6 @@ use Rattle.endless.proofs.Reading.{places_are}
 use Rattle.endless.proofs.Checks.{both_hold}
 use Rattle.endless.proofs.verdict.check_game.Goals as goal
 
-pub returns-in-Some : goal.returns-in-Some
-returns-in-Some c = λ g r.
-    let t = c.in-Some.ensures in
-    let p = c.requires in
-    let here = places_are c.args.words.now g r in
-    let there = places_are c.args.words.now p.0 p.1 in
-    (omega (arith, t.0), t.1)
-
 pub returns : goal.returns
 returns c = λ g r.
     let o = c.args.answer.now in
