@@ -4,7 +4,7 @@ ghost use Rattle.endless.specs.Answers.{WinnerIs, PlanIs};
 use crate::side::Side;
 
 /// A place, by its index in the game.
-#[derive(Clone, Copy)]
+#[derive(Clone, Copy, PartialEq, Eq, Debug)]
 pub struct PlaceId(pub u32);
 
 /// The side that wins a place.
