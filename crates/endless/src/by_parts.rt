@@ -173,11 +173,12 @@ pub fn level_by_parts(
     ensures frame { (n : ℕ) → Out (members own.old) n → Unchanged desk.old.out.now desk.new.out.now n }
     ensures solves { Subgame graph.now (members own.old) → Solves graph.now (members own.old) (side desk.new.out.now) (goes desk.new.out.now) }
 {
+    let places = graph.places();
     let mut order = Order::new();
     let mut remaining = many;
     while remaining > 0 {
         let start = find_start(
-            graph,
+            places,
             own,
             remaining,
             spare,
@@ -188,7 +189,7 @@ pub fn level_by_parts(
         );
         let (_, free) = spare.split_at_mut(order.kept.min(spare.len()));
         let (left, deeper) = rest.split_at_mut(own.len());
-        let count = take_part(graph, start, within, free.len(), own, left, desk.queue);
+        let count = take_part(places, start, within, free.len(), own, left, desk.queue);
         let (list, beyond) = save(desk.queue, count, free);
         let (weight, below) = bring_about_part(graph, remaining, own, list, left, desk);
         if below > 0 {

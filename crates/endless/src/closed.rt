@@ -7,7 +7,7 @@ ghost use Rattle.endless.specs.Bits.{members, size};
 ghost use Rattle.endless.specs.Parts.{Spacious, Listing, Spread, Covers, PartTaken};
 
 use crate::bits;
-use crate::graph::Graph;
+use crate::graph::Places;
 
 /// Takes a place into the part, and to the end of the queue, where it is in
 /// the set and not there yet. The number of places in the queue then.
@@ -52,15 +52,15 @@ fn spread_over(
 
 /// Makes `part` all places of the set that can be come to from `start` within
 /// it, and lists them in the queue. How many there are.
-pub fn reach(graph: &Graph, start: u32, set: &[u32], part: &mut [u32], queue: &mut [u32]) -> usize
-    requires sets { length graph.now ≤ 32 * length set.now }
-    requires places { (n : ℕ) → In (members set.now) n → n < length graph.now }
+pub fn reach(places: &Places, start: u32, set: &[u32], part: &mut [u32], queue: &mut [u32]) -> usize
+    requires sets { length places.now ≤ 32 * length set.now }
+    requires places { (n : ℕ) → In (members set.now) n → n < length places.now }
     requires first { In (members set.now) start }
     requires spacious { Spacious set.now part.old queue.old }
     ensures lists { Listing set.now part.new queue.new result }
     ensures few { result ≤ size set.now }
     ensures holds { In (members part.new) start }
-    ensures closed { Closed graph.now (members set.now) (members part.new) }
+    ensures closed { Closed places.now (members set.now) (members part.new) }
 {
     bits::clear(part);
     let mut head = 0;
@@ -69,7 +69,7 @@ pub fn reach(graph: &Graph, start: u32, set: &[u32], part: &mut [u32], queue: &m
     while head < tail {
         let from = queue[head];
         head += 1;
-        tail = spread_over(graph.moves(from), set, part, queue, tail);
+        tail = spread_over(places.moves(from), set, part, queue, tail);
     }
     tail
 }
@@ -78,21 +78,21 @@ pub fn reach(graph: &Graph, start: u32, set: &[u32], part: &mut [u32], queue: &m
 /// it is there and as many places have room; then these stand in the queue,
 /// and their number is told. Else all of the set.
 fn part_from(
-    graph: &Graph,
+    places: &Places,
     start: u32,
     room: usize,
     set: &[u32],
     part: &mut [u32],
     queue: &mut [u32],
 ) -> Option<usize>
-    requires sets { length graph.now ≤ 32 * length set.now }
-    requires places { (n : ℕ) → In (members set.now) n → n < length graph.now }
+    requires sets { length places.now ≤ 32 * length set.now }
+    requires places { (n : ℕ) → In (members set.now) n → n < length places.now }
     requires spacious { Spacious set.now part.old queue.old }
     ensures fits { IfSome result (λ k. k ≤ room) }
-    ensures taken { PartTaken graph.now set.now part.new queue.new result }
+    ensures taken { PartTaken places.now set.now part.new queue.new result }
 {
-    if start < graph.len() && bits::has(set, start) {
-        let count = reach(graph, start, set, part, queue);
+    if start < places.len() && bits::has(set, start) {
+        let count = reach(places, start, set, part, queue);
         if count <= room {
             return Some(count);
         }
@@ -117,7 +117,7 @@ fn list_all(list: &[u32], set: &[u32], part: &mut [u32], queue: &mut [u32]) -> u
 /// which is short beside the room, they stand in the queue, and their number
 /// is told.
 fn part_within(
-    graph: &Graph,
+    places: &Places,
     within: Option<&[u32]>,
     room: usize,
     set: &[u32],
@@ -128,7 +128,7 @@ fn part_within(
     requires inside { ForSome within (λ list. (j : ℕ) → j < length list.now → slice_index list.now j < 32 * length set.now) }
     requires spacious { Spacious set.now part.old queue.old }
     ensures fits { IfSome result (λ k. k ≤ room) }
-    ensures taken { PartTaken graph.now set.now part.new queue.new result }
+    ensures taken { PartTaken places.now set.now part.new queue.new result }
 {
     if let Some(list) = within {
         if list.len() <= room / 8 {
@@ -146,7 +146,7 @@ fn part_within(
 /// there is one, else all of it. Their number, if they stand in the queue;
 /// where they do not, the part is all of the set.
 pub fn take_part(
-    graph: &Graph,
+    places: &Places,
     start: Option<u32>,
     within: Option<&[u32]>,
     room: usize,
@@ -154,16 +154,16 @@ pub fn take_part(
     part: &mut [u32],
     queue: &mut [u32],
 ) -> Option<usize>
-    requires sets { length graph.now ≤ 32 * length set.now }
-    requires places { (n : ℕ) → In (members set.now) n → n < length graph.now }
+    requires sets { length places.now ≤ 32 * length set.now }
+    requires places { (n : ℕ) → In (members set.now) n → n < length places.now }
     requires covers { ForSome within (λ list. Covers set.now list.now) }
     requires inside { ForSome within (λ list. (j : ℕ) → j < length list.now → slice_index list.now j < 32 * length set.now) }
     requires spacious { Spacious set.now part.old queue.old }
     ensures fits { IfSome result (λ k. k ≤ room) }
-    ensures taken { PartTaken graph.now set.now part.new queue.new result }
+    ensures taken { PartTaken places.now set.now part.new queue.new result }
 {
     match start {
-        Some(start) => part_from(graph, start, room, set, part, queue),
-        None => part_within(graph, within, room, set, part, queue),
+        Some(start) => part_from(places, start, room, set, part, queue),
+        None => part_within(places, within, room, set, part, queue),
     }
 }

@@ -163,6 +163,16 @@ impl<'a> Graph<'a> {
         }
     }
 
+    /// Its places, for what does not ask who may move to a place.
+    pub fn places(&self) -> &Places<'a>
+        ensures { result.now ≡ self.now }
+    {
+        &self.places
+    }
+
+    // What the places tell, as it stands there: the same through `places()`
+    // would be a call more at each of some thirty uses, and no plainer.
+
     /// How many places there are.
     pub fn len(&self) -> u32
         ensures len { result ≡ length self.now }
