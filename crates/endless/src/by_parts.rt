@@ -24,6 +24,7 @@ use crate::side::Side;
 
 /// Copies the places of a part from the queue to the first of the free words,
 /// if they stand there: the list of them, and the words behind it.
+// Cut from lent words, as this crate has no heap.
 fn save<'a>(
     queue: &[u32],
     count: Option<usize>,
@@ -48,6 +49,10 @@ fn part_size(list: Option<&[u32]>, many: usize) -> usize
 {
     list.map_or(many, |list| list.len())
 }
+
+// A set and how many places it has are two parameters from here on: the set is
+// cut from `rest`, and the number comes from what was attracted, so that a
+// struct of both would be made for each call and taken apart in it.
 
 /// Takes from a part of `own` the attractor of its places of the heaviest
 /// weight for the side that this weight is good for, and gives it to that

@@ -65,7 +65,8 @@ pub fn reach(places: &Places, start: u32, set: &[u32], part: &mut [u32], queue: 
     bits::clear(part);
     let mut head = 0;
     let mut tail = spread_to(start, set, part, queue, 0);
-    // The queue grows on the way, so that no iterator can borrow it.
+    // The queue grows on the way, so that no iterator can borrow it; it is lent
+    // words, as this crate has no heap.
     while head < tail {
         let from = queue[head];
         head += 1;

@@ -46,6 +46,8 @@ impl Effort {
 
 /// The order of a level's places that is kept in its spare words, and how far
 /// it has been gone through.
+// Numbers beside the lent words, as this crate has no heap: no list is owned,
+// and one that is lent here could not be lent to what the level calls.
 #[derive(Clone, Copy)]
 pub struct Order {
     pub kept: usize,
@@ -67,7 +69,8 @@ fn first_left(own: &[u32], order: &[u32], from: usize) -> usize {
     }
 }
 
-/// The places of a subgame, listed as their components are found.
+/// The places of a subgame, listed as their components are found: `many` stand
+/// in `list`, which is lent, as this crate has no heap.
 #[derive(Drop)]
 struct Listing<'a> {
     places: &'a Places<'a>,
