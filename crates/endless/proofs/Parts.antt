@@ -8,7 +8,9 @@ use Rattle.endless.specs.Subgames.{Closed}
 use Rattle.endless.specs.Bits.{members, size, Inserted}
 use Rattle.endless.specs.Graph.{moves}
 use Rattle.endless.specs.Pulling.{Passed}
-use Rattle.endless.specs.Parts.{Listing, Spread, Told, PartTaken, Covers}
+use Rattle.endless.specs.Parts.{Listing, Told, PartTaken, Covers}
+use Rattle.endless.specs.Growing.{Grown}
+use Rattle.endless.specs.declared.closed.Growing.{Growing}
 use Rattle.endless.proofs.Tests.{T_true, true_T}
 use Rattle.endless.proofs.Among.{among_at}
 use Rattle.endless.proofs.SetLaws.{size_sub, size_sub_lt, size_none, size_some}
@@ -35,7 +37,7 @@ module _ {l : List ℕ} {k : ℕ} {r : List ℕ} (ins : Inserted l k r) where
       go (inl e) = inl e
       go (inr d) = inr (subst T (inserted_else n d) x)
 
--- nothing listed yet, nothing more
+-- nothing listed yet
 pub listing_none : {own part queue : List ℕ} → size part ≡ 0 → Listing own part queue 0
 listing_none {part = part} none = record {
   inside = λ n x. absurd (both_ways (members part n) (size_none part none n) (T_true _ x));
@@ -44,8 +46,12 @@ listing_none {part = part} none = record {
   listed = λ n x. absurd (both_ways (members part n) (size_none part none n) (T_true _ x));
 }
 
-pub spread_none : {own part queue : List ℕ} {count : ℕ} → Listing own part queue count → Spread own part queue count part queue count
-spread_none k = record { lists = k; grows = omega arith; more = λ n x. x; front = λ j h. refl }
+-- places of the set came to the part, and to the end of the queue
+pub record Spread (own part queue : List ℕ) (count : ℕ) (part' queue' : List ℕ) (count' : ℕ) : Type 0 where
+  pub lists : Listing own part' queue' count'
+  pub grows : count ≤ count'
+  pub more : Within (members part) (members part')
+  pub front : (j : ℕ) → j < count → get_or queue' j 0 ≡ get_or queue j 0
 
 -- a place of the set that is not in the part: there is room for it, and it comes
 module _ {own part queue : List ℕ} {count : ℕ} (place : ℕ) (same : length part ≡ length own) (room : size own ≤ length queue) (k : Listing own part queue count) (mine : members own place ≡ true) (new : members part place ≡ false) where
@@ -83,42 +89,68 @@ module _ {own part queue : List ℕ} {count : ℕ} (place : ℕ) (same : length 
       listed n (inl e) = (count, omega arith, last ∙ sym e)
       listed n (inr x) = let t = k.listed n x in (t.0, omega (arith, t.1), front t.0 t.1 ∙ t.2)
 
+-- how a part grows, step by step
+pub grown_none : (a : Growing) → Listing a.set.now a.part.now a.queue.now a.count → Grown a a
+grown_none a k = record { lists = k; set = refl; part = refl; queue = refl; grows = omega arith; more = λ n x. x; front = λ j h. refl }
+
+pub grown_then : {a b c : Growing} → Grown a b → Grown b c → Grown a c
+grown_then x y = record {
+  set = y.set ∙ x.set;
+  part = y.part ∙ x.part;
+  queue = y.queue ∙ x.queue;
+  grows = omega (arith, x.grows, y.grows);
+  more = λ n i. y.more n (x.more n i);
+  lists = y.lists;
+  front = λ j h. y.front j (omega (arith, x.grows)) ∙ x.front j h;
+}
+
+-- a part has no more places than its set
+pub listing_few : {own part queue : List ℕ} {count : ℕ} → length part ≡ length own → Listing own part queue count → count ≤ size own
+listing_few {own} {part} same k = omega (arith, k.counts, size_sub part own same (λ j x. T_true _ (k.inside j (true_T _ x))))
+
 -- of a list of places the first i that are in the set are in the part
-pub record Over (own part queue : List ℕ) (count : ℕ) (items : List ℕ) (i : ℕ) (part' queue' : List ℕ) (count' : ℕ) : Type 0 where
-  pub spread : Spread own part queue count part' queue' count'
-  pub holds : (k : ℕ) → k < i → In (members own) (get_or items k 0) → In (members part') (get_or items k 0)
+pub record Over (a : Growing) (items : List ℕ) (i : ℕ) (b : Growing) : Type 0 where
+  pub grown : Grown a b
+  pub holds : (k : ℕ) → k < i → In (members a.set.now) (get_or items k 0) → In (members b.part.now) (get_or items k 0)
 
--- what can be come to from a place: the queue is gone through up to `head`
-pub record Going (g : Game) (start : ℕ) (own part queue : List ℕ) (head tail : ℕ) : Type 0 where
-  pub lists : Listing own part queue tail
-  pub order : head ≤ tail
-  pub starts : In (members part) start
-  pub passed : (j : ℕ) → j < head → (m : ℕ) → May g (get_or queue j 0) m → In (members own) m → In (members part) m
+pub over_more : {a b c : Growing} {items : List ℕ} {i i' : ℕ} → Over a items i b → i' ≡ i + 1 → Grown b c → (In (members b.set.now) (get_or items i 0) → In (members c.part.now) (get_or items i 0)) → Over a items i' c
+over_more {a = a} {c = c} {items = items} {i = i} {i' = i'} k is grown came = record { grown = grown_then k.grown grown; holds = λ j h x. holds j h x (cases_lt j i) }
+  where
+    holds : (j : ℕ) → j < i' → In (members a.set.now) (get_or items j 0) → (j < i) ⊎ (i ≤ j) → In (members c.part.now) (get_or items j 0)
+    holds j h x (inl e) = grown.more (get_or items j 0) (k.holds j e x)
+    holds j h x (inr e) =
+        let same : i ≡ j = omega arith in
+        subst (λ (n : ℕ). In (members a.set.now) (get_or items n 0) → In (members c.part.now) (get_or items n 0)) same (λ y. came (subst (λ (s : List ℕ). In (members s) (get_or items i 0)) (sym k.grown.set) y)) x
 
-pub going_below : {g : Game} {start : ℕ} {own part queue : List ℕ} {head tail : ℕ} → length part ≡ length own → Going g start own part queue head tail → tail ≤ size own
-going_below {own = own} {part = part} same k = omega (arith, k.lists.counts, size_sub part own same (λ j x. T_true _ (k.lists.inside j (true_T _ x))))
+-- going to what can be come to: the queue is gone through up to `head`
+pub record Going (g : Game) (a b : Growing) (head : ℕ) : Type 0 where
+  pub grown : Grown a b
+  pub order : head ≤ b.count
+  pub passed : (j : ℕ) → j < head → (m : ℕ) → May g (get_or b.queue.now j 0) m → In (members b.set.now) m → In (members b.part.now) m
 
-pub going_more : {g : Game} {start : ℕ} {own part queue : List ℕ} {head tail : ℕ} {items part' queue' : List ℕ} {next tail' : ℕ} → head < tail → next ≡ head + 1 → items ≡ moves g (get_or queue head 0) → Going g start own part queue head tail → Spread own part queue tail part' queue' tail' →
-    ((k : ℕ) → k < length items → In (members own) (get_or items k 0) → In (members part') (get_or items k 0)) → Going g start own part' queue' next tail'
-going_more {g = g} {start = start} {own = own} {part = part} {queue = queue} {head = head} {items = items} {part' = part'} {queue' = queue'} {next = next} h is are k s holds = record {
-  lists = s.lists;
+pub going_none : {g : Game} (a : Growing) → Listing a.set.now a.part.now a.queue.now a.count → Going g a a 0
+going_none a k = record { grown = grown_none a k; order = omega arith; passed = λ j h m may x. absurd (omega arith) }
+
+pub going_more : {g : Game} {a b c : Growing} {head next : ℕ} {items : List ℕ} → Going g a b head → head < b.count → next ≡ head + 1 → items ≡ moves g (get_or b.queue.now head 0) → Grown b c →
+    ((k : ℕ) → k < length items → In (members b.set.now) (get_or items k 0) → In (members c.part.now) (get_or items k 0)) → Going g a c next
+going_more {g = g} {b = b} {c = c} {head = head} {next = next} {items = items} k h is are s holds = record {
+  grown = grown_then k.grown s;
   order = omega (arith, s.grows);
-  starts = s.more start k.starts;
-  passed = λ j l m may x. passed j l m may x (cases_lt j head);
+  passed = λ j l m may x. passed j l m may (subst (λ (t : List ℕ). In (members t) m) s.set x) (cases_lt j head);
 }
   where
-    passed : (j : ℕ) → j < next → (m : ℕ) → May g (get_or queue' j 0) m → In (members own) m → (j < head) ⊎ (head ≤ j) → In (members part') m
+    passed : (j : ℕ) → j < next → (m : ℕ) → May g (get_or c.queue.now j 0) m → In (members b.set.now) m → (j < head) ⊎ (head ≤ j) → In (members c.part.now) m
     passed j l m may x (inl e) = s.more m (k.passed j e m (subst (λ (n : ℕ). May g n m) (s.front j (omega arith)) may) x)
     passed j l m may x (inr e) =
-        let same : get_or queue' j 0 ≡ get_or queue head 0 = ap (λ (i : ℕ). get_or queue' i 0) (let e' : j ≡ head = omega arith in e') ∙ s.front head h in
+        let same : get_or c.queue.now j 0 ≡ get_or b.queue.now head 0 = ap (λ (i : ℕ). get_or c.queue.now i 0) (let e' : j ≡ head = omega arith in e') ∙ s.front head h in
         let t = among_at m items (subst (λ (y : List ℕ). Among m y) (sym are) (subst (λ (n : ℕ). May g n m) same may)) in
-        subst (λ (n : ℕ). In (members part') n) t.2 (holds t.0 t.1 (subst (λ (n : ℕ). In (members own) n) (sym t.2) x))
+        subst (λ (n : ℕ). In (members c.part.now) n) t.2 (holds t.0 t.1 (subst (λ (n : ℕ). In (members b.set.now) n) (sym t.2) x))
 
-pub going_all : {g : Game} {start : ℕ} {own part queue : List ℕ} {head tail : ℕ} → tail ≤ head → Going g start own part queue head tail → Closed g (members own) (members part)
-going_all {g = g} end k = record {
-  within = k.lists.inside;
-  stays = λ n m x may y. let t = k.lists.listed n x in k.passed t.0 (omega (arith, t.1)) m (subst (λ (i : ℕ). May g i m) (sym t.2) may) y;
-}
+pub going_all : {g : Game} {a b : Growing} {head : ℕ} → Going g a b head → b.count ≤ head → Closed g (members a.set.now) (members b.part.now)
+going_all {g = g} {b = b} k end = subst (λ (t : List ℕ). Closed g (members t) (members b.part.now)) k.grown.set (record {
+  within = k.grown.lists.inside;
+  stays = λ n m x may y. let t = k.grown.lists.listed n x in k.passed t.0 (omega (arith, t.1)) m (subst (λ (i : ℕ). May g i m) (sym t.2) may) y;
+})
 
 -- a closed part is taken, whose places stand in the queue
 pub queued_taken : {g : Game} {own part queue : List ℕ} {count : ℕ} → length part ≡ length own → Listing own part queue count → (0 < size own → 0 < size part) → Closed g (members own) (members part) → PartTaken g own part queue (Some count)

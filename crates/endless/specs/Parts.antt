@@ -23,13 +23,6 @@ pub record Listing (own part queue : List ℕ) (count : ℕ) : Type 0 where
   pub queued : (j : ℕ) → j < count → In (members part) (slice_index queue j)
   pub listed : (n : ℕ) → In (members part) n → Passed queue count n
 
--- places of the set came to the part, and to the end of the queue
-pub record Spread (own part queue : List ℕ) (count : ℕ) (part' queue' : List ℕ) (count' : ℕ) : Type 0 where
-  pub lists : Listing own part' queue' count'
-  pub grows : count ≤ count'
-  pub more : Within (members part) (members part')
-  pub front : (j : ℕ) → j < count → slice_index queue' j ≡ slice_index queue j
-
 -- a list has the places of R, and no others
 abbrev pub Told : List ℕ → Set → Type 0
 Told list R = (n : ℕ) → In R n ↔ Passed list (length list) n

@@ -3,8 +3,10 @@ ghost use Rattle.endless.specs.Answers.{WinnerIs, PlanIs};
 
 use crate::side::Side;
 
+// Two words for each place, at `2 * n` and `2 * n + 1`, and no slice of pairs:
+// so C has an answer, which may be short or have words behind it.
 /// A place, by its index in the game.
-#[derive(Clone, Copy)]
+#[derive(Clone, Copy, PartialEq, Eq, Debug)]
 pub struct PlaceId(pub u32);
 
 /// The side that wins a place.

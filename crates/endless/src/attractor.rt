@@ -117,7 +117,8 @@ impl Attraction<'_, '_> {
         ensures brings { Brings self.old self.new }
     {
         let mut head = 0;
-        // The queue grows on the way, so that no iterator can borrow it.
+        // The queue grows on the way, so that no iterator can borrow it; it is lent
+        // words, as this crate has no heap.
         'queue: while head < self.tail {
             let to = self.queue[head];
             head += 1;

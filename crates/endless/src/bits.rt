@@ -1,4 +1,7 @@
 //! Sets of places as bits of lent words: place `i` is bit `i % 32` of word `i / 32`.
+//!
+//! Functions on words, and no type: a set is cut from lent words, and saved and
+//! handed on as words, and a type around them would be made at each such cut.
 ghost use Rattle.std.specs.Prelude.{◌≡◌, ℕ, ◌+◌, ◌-◌, ◌*◌, ◌/◌, ◌^◌, ◌<◌, ◌≤◌, true, false, length, MatchOption, ◌==◌, nat_lt};
 ghost use Rattle.std.specs.Iterator.{at_most};
 ghost use Rattle.endless.specs.Bits.{digit, members, size, Inserted, Removed, Least, NoneFrom};

@@ -24,6 +24,7 @@ use crate::side::Side;
 
 /// Copies the places of a part from the queue to the first of the free words,
 /// if they stand there: the list of them, and the words behind it.
+// Cut from lent words, as this crate has no heap.
 fn save<'a>(
     queue: &[u32],
     count: Option<usize>,
@@ -48,6 +49,10 @@ fn part_size(list: Option<&[u32]>, many: usize) -> usize
 {
     list.map_or(many, |list| list.len())
 }
+
+// A set and how many places it has are two parameters from here on: the set is
+// cut from `rest`, and the number comes from what was attracted, so that a
+// struct of both would be made for each call and taken apart in it.
 
 /// Takes from a part of `own` the attractor of its places of the heaviest
 /// weight for the side that this weight is good for, and gives it to that
@@ -173,11 +178,12 @@ pub fn level_by_parts(
     ensures frame { (n : ℕ) → Out (members own.old) n → Unchanged desk.old.out.now desk.new.out.now n }
     ensures solves { Subgame graph.now (members own.old) → Solves graph.now (members own.old) (side desk.new.out.now) (goes desk.new.out.now) }
 {
+    let places = graph.places();
     let mut order = Order::new();
     let mut remaining = many;
     while remaining > 0 {
         let start = find_start(
-            graph,
+            places,
             own,
             remaining,
             spare,
@@ -188,7 +194,7 @@ pub fn level_by_parts(
         );
         let (_, free) = spare.split_at_mut(order.kept.min(spare.len()));
         let (left, deeper) = rest.split_at_mut(own.len());
-        let count = take_part(graph, start, within, free.len(), own, left, desk.queue);
+        let count = take_part(places, start, within, free.len(), own, left, desk.queue);
         let (list, beyond) = save(desk.queue, count, free);
         let (weight, below) = bring_about_part(graph, remaining, own, list, left, desk);
         if below > 0 {

@@ -46,6 +46,7 @@ pub(crate) struct Walk<'a> {
     numbers: &'a mut [u32],
     /// How many of each place's moves were looked along.
     cursors: &'a mut [u32],
+    // No `Vec` and no stack: lent words, as this crate has no heap.
     /// From the front the path to where the walk stands, and from the back the
     /// places that were left behind and have no component yet.
     queue: &'a mut [u32],
@@ -89,8 +90,8 @@ impl<'a> Walk<'a> {
             return;
         }
         self.enter(place);
-        // Nothing is proved of the walk, so a bound that is never reached stands for
-        // a measure.
+        // A bound that is never reached, and no measure: that would need the laws of
+        // the walk, which nothing else needs.
         for _ in 0..u64::MAX {
             if self.path == 0 {
                 return;
@@ -119,7 +120,7 @@ impl<'a> Walk<'a> {
         write(self.numbers, place as usize, number);
         match next {
             Some((to, cursor)) => {
-                write(self.cursors, place as usize, cursor);
+                write(self.cursors, place as usize, (cursor & 0xffff_ffff) as u32);
                 self.enter(to);
             }
             None => self.leave(view, place, number),
@@ -135,10 +136,9 @@ impl<'a> Walk<'a> {
         place: u32,
         from: u32,
         number: u32,
-    ) -> (Option<(u32, u32)>, u32) {
+    ) -> (Option<(u32, usize)>, u32) {
         let mut least = number;
-        let mut cursor = from;
-        for to in view.moves(place).iter().skip(from as usize) {
+        for (cursor, to) in view.moves(place).iter().enumerate().skip(from as usize) {
             if view.has(*to) {
                 let met = word(self.numbers, *to as usize);
                 if met == 0 {
@@ -148,7 +148,6 @@ impl<'a> Walk<'a> {
                     least = met / 2 * 2;
                 }
             }
-            cursor = cursor.saturating_add(1);
         }
         (None, least)
     }

@@ -2,7 +2,7 @@
 use crate::answer::PlaceId;
 
 /// Why a plan does not win for its side from the places given to it.
-#[derive(Clone, Copy)]
+#[derive(Clone, Copy, PartialEq, Eq, Debug)]
 pub enum Flaw {
     /// From this place of the side's own the plan's move is no move.
     NoMove(PlaceId),

@@ -194,6 +194,8 @@ pub(crate) fn gather_won(winner: Side, set: &mut [u32], out: &[u32], queue: &mut
 
 /// Whether the answer gives a place to a side; so it is of all places where no
 /// side is asked for.
+// An `Option` and no closure: the contracts name what is wanted, and with a
+// closure each would have to say first what it answers.
 fn is_wanted(winner: Option<Side>, out: &[u32], place: u32) -> bool
     requires { 2 * place < length out.now }
     ensures { result ≡ (wanted winner out.now place == mark winner) }

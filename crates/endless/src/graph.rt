@@ -45,6 +45,8 @@ impl<'a> Model for Places<'a> {
 
     ghost Value = { Game };
 
+    // The game alone, without the fact that words hold it: each call that needs
+    // this fact tells it or asks for it (`Playable`).
     ghost view = { λ p. game_in p.words.now };
 
     ghost invariant = { λ p. Placed p.words.now (game_in p.words.now) (positions p.starts.now) };
@@ -77,6 +79,8 @@ impl<'a> Places<'a> {
         ensures moves { result.moves ≡ length (moves self.now n) }
         ensures playable { Playable self.now }
     {
+        // No `Head::read`, which tests the words once more: tried, and a check of
+        // an answer took 201 ms where it takes 123.
         let head = HeadWords::read(self.words_from(n));
         Head {
             whose: if head.whose == 0 {
@@ -162,6 +166,16 @@ impl<'a> Graph<'a> {
             preds,
         }
     }
+
+    /// Its places, for what does not ask who may move to a place.
+    pub fn places(&self) -> &Places<'a>
+        ensures { result.now ≡ self.now }
+    {
+        &self.places
+    }
+
+    // What the places tell, as it stands there: the same through `places()`
+    // would be a call more at each of some thirty uses, and no plainer.
 
     /// How many places there are.
     pub fn len(&self) -> u32
@@ -263,6 +277,8 @@ fn count_entering(places: &Places, counts: &mut [Halves])
     ensures { (m : ℕ) → slice_index (positions counts.new) m ≡ entering places.now m }
 {
     counts.fill([0, 0]);
+    // By number: an iterator of moves would be a type with a contract for this
+    // one loop.
     for v in 0..places.len() {
         count_moves(places.moves(v), counts);
     }

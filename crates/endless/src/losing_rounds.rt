@@ -27,6 +27,8 @@ impl Claim<'_> {
     fn occurs(&self, weight: u32) -> bool
         ensures { result ≡ false → (n : ℕ) → In (members self.now.set.now) n → weigh self.now.graph.now n ≢ weight }
     {
+        // A loop, as in `first_rise`: `any` and `find` were tried, and that the
+        // set's iterator hands their closures only places was not found.
         for place in bits::iter(self.set) {
             if self.graph.weight(place) == weight {
                 return true;
@@ -76,9 +78,7 @@ impl Examination<'_, '_> {
     {
         let claim = self.claim;
         claim.propose(heaviest, self.ranks, self.lent);
-        let Some(place) = claim.first_rise(heaviest, self.ranks) else {
-            return None;
-        };
+        let place = claim.first_rise(heaviest, self.ranks)?;
         if claim.graph.weight(place) == heaviest {
             if self.comes_back(heaviest, place) {
                 return Some(place);

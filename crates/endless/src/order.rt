@@ -7,7 +7,7 @@ ghost use Rattle.std.specs.Prelude.{◌*◌, ◌^◌, ◌<◌, length};
 
 use crate::bits;
 use crate::components::{View, Walk, is_in, write};
-use crate::graph::Graph;
+use crate::graph::Places;
 
 /// Subgames of no more places are not split.
 const SMALL: usize = 32;
@@ -46,6 +46,8 @@ impl Effort {
 
 /// The order of a level's places that is kept in its spare words, and how far
 /// it has been gone through.
+// Numbers beside the lent words, as this crate has no heap: no list is owned,
+// and one that is lent here could not be lent to what the level calls.
 #[derive(Clone, Copy)]
 pub struct Order {
     pub kept: usize,
@@ -67,10 +69,11 @@ fn first_left(own: &[u32], order: &[u32], from: usize) -> usize {
     }
 }
 
-/// The places of a subgame, listed as their components are found.
+/// The places of a subgame, listed as their components are found: `many` stand
+/// in `list`, which is lent, as this crate has no heap.
 #[derive(Drop)]
 struct Listing<'a> {
-    graph: &'a Graph<'a>,
+    places: &'a Places<'a>,
     own: &'a [u32],
     list: &'a mut [u32],
     many: usize,
@@ -82,9 +85,9 @@ impl View for Listing<'_> {
     }
 
     fn moves(&self, place: u32) -> &[u32] {
-        let graph: &Graph = self.graph;
-        if place < graph.len() {
-            graph.moves(place)
+        let places: &Places = self.places;
+        if place < places.len() {
+            places.moves(place)
         } else {
             &[]
         }
@@ -108,7 +111,7 @@ fn clear(own: &[u32], numbers: &mut [u32])
 /// Makes an order of what is left of a level, where that may be worth while
 /// and there is room.
 fn make_order<'a>(
-    graph: &'a Graph<'a>,
+    places: &'a Places<'a>,
     own: &'a [u32],
     size: usize,
     spare: &'a mut [u32],
@@ -118,7 +121,7 @@ fn make_order<'a>(
 ) -> Order
     requires { 32 * length own.now < 2 ^ 32 }
 {
-    let all = graph.len() as usize;
+    let all = places.len() as usize;
     effort.spend(size);
     if size <= SMALL || effort.steps < effort.next || spare.len() < all.saturating_add(size) {
         return Order::new();
@@ -127,7 +130,7 @@ fn make_order<'a>(
     let (list, numbers) = spare.split_at_mut(front);
     clear(own, numbers);
     let mut listing = Listing {
-        graph,
+        places,
         own,
         list,
         many: 0,
@@ -150,7 +153,7 @@ fn make_order<'a>(
 /// A place of what is left of a level from which few places can be come to,
 /// if one is known or it is worth while to look for one.
 pub fn find_start(
-    graph: &Graph,
+    places: &Places,
     own: &[u32],
     size: usize,
     spare: &mut [u32],
@@ -162,7 +165,7 @@ pub fn find_start(
     requires { 32 * length own.now < 2 ^ 32 }
 {
     if order.at >= order.kept {
-        *order = make_order(graph, own, size, spare, queue, cursors, effort);
+        *order = make_order(places, own, size, spare, queue, cursors, effort);
     }
     order.kept = order.kept.min(spare.len());
     let kept = &spare[0..order.kept];

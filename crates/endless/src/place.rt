@@ -39,7 +39,8 @@ impl Head {
 
 /// The three words before a place's moves as they stand.
 // Beside `Head`, since a place of a game with ends may have no moves, and so
-// no `Head`, and since what is known to be a game is not tested once more.
+// no `Head`, and since what is known to be a game is not tested once more. One
+// generic type for both would let a `Head` have a word for a side.
 #[derive(Clone, Copy)]
 pub struct HeadWords {
     // A word and not a `Side`: it may name none.

@@ -2,6 +2,7 @@
 ghost use Rattle.std.specs.Prelude.{◌≡◌};
 ghost use Rattle.endless.specs.Graph.{joined};
 
+// No struct, and so no `From`: arrays are what lent words can be cut into.
 /// A position as two words, the low one first.
 pub type Halves = [u32; 2];
 

@@ -20,6 +20,8 @@ fn follows(from: u32, to: u32, falls: bool) -> bool
     if falls { to < from } else { to <= from }
 }
 
+// No struct of claim, weight and ranks: `first_rise` alone would make one, for
+// one call, since the ranks are lent on to `propose` in between.
 impl Claim<'_> {
     /// Whether a place is in the set and not heavier than `heaviest`.
     fn is_light(&self, heaviest: u32, place: u32) -> bool
@@ -74,6 +76,7 @@ impl Claim<'_> {
         requires ranks { length self.now.graph.now ≤ length ranks.now }
         ensures { MatchOption result ((n : ℕ) → In (members self.now.set.now) n → weight self.now.graph.now n ≤ heaviest → FallsAt self.now.graph.now (members self.now.set.now) (number self.now.side) (goes self.now.answer.now) heaviest ranks.now n) (λ n. In (members self.now.set.now) n) }
     {
+        // No `find`, as no `any` in `occurs`.
         for place in bits::iter(self.set) {
             if self.graph.weight(place) <= heaviest {
                 if !self.falls_at(heaviest, ranks, place) {

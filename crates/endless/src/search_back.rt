@@ -93,7 +93,8 @@ impl<'c, 'r> SearchBack<'c, 'r> {
         ensures traced { Traced self.old self.new }
     {
         let mut head = 0;
-        // The queue grows on the way, so that no iterator can borrow it.
+        // The queue grows on the way, so that no iterator can borrow it; it is lent
+        // words, as this crate has no heap.
         while head < self.tail {
             let to = self.queue[head];
             head += 1;

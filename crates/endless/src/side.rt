@@ -1,10 +1,11 @@
 //! The two sides of a game, and the words that stand for them.
-ghost use Rattle.std.specs.Prelude.{◌≡◌, ◌%◌};
+ghost use Rattle.std.specs.Prelude.{◌≡◌, ◌%◌, Some};
 ghost use Rattle.endless.specs.Games.{other};
-ghost use Rattle.endless.specs.Sides.{number, NamesSide};
+ghost use Rattle.endless.specs.Sides.{number, digit, NamesSide, SpellsSide};
 
 use std::error::Error;
 use std::fmt;
+use std::str::FromStr;
 
 /// One of the two sides: `Even` is side 0, `Odd` is side 1.
 #[derive(Clone, Copy, PartialEq, Eq, Debug)]
@@ -66,6 +67,36 @@ impl From<Side> for u32 {
     }
 }
 
+impl fmt::Display for Side {
+    ghost output = { λ side. Some (digit side) };
+
+    fn fmt<W: fmt::Write>(&self, f: &mut fmt::Formatter<W>) -> fmt::Result {
+        f.write_str(match self {
+            Side::Even => "0",
+            Side::Odd => "1",
+        })
+    }
+}
+
+/// A text that is no side: neither `0` nor `1`.
+#[derive(Clone, Copy, PartialEq, Eq, Debug)]
+pub struct UnknownSide;
+
+impl FromStr for Side {
+    type Err = UnknownSide;
+
+    ghost from_str_gives = { SpellsSide };
+
+    // No number is parsed: `01` and `+1` are no sides.
+    fn from_str(text: &str) -> Result<Side, UnknownSide> {
+        match text {
+            "0" => Ok(Side::Even),
+            "1" => Ok(Side::Odd),
+            _ => Err(UnknownSide),
+        }
+    }
+}
+
 impl fmt::Display for NoSide {
     fn fmt<W: fmt::Write>(&self, f: &mut fmt::Formatter<W>) -> fmt::Result {
         write!(f, "{} is no side", self.0)
@@ -73,3 +104,11 @@ impl fmt::Display for NoSide {
 }
 
 impl Error for NoSide {}
+
+impl fmt::Display for UnknownSide {
+    fn fmt<W: fmt::Write>(&self, f: &mut fmt::Formatter<W>) -> fmt::Result {
+        f.write_str("a side is 0 or 1")
+    }
+}
+
+impl Error for UnknownSide {}

@@ -22,7 +22,7 @@ use crate::side::Side;
 use crate::{bits, layout};
 
 /// Why an answer is none.
-#[derive(Clone, Copy)]
+#[derive(Clone, Copy, PartialEq, Eq, Debug)]
 pub enum Reason {
     /// It has fewer than two words for each place.
     Short,
@@ -33,7 +33,7 @@ pub enum Reason {
 }
 
 /// Why `check` does not say that an answer is right.
-#[derive(Clone, Copy)]
+#[derive(Clone, Copy, PartialEq, Eq, Debug)]
 pub enum Rejection {
     /// The words cannot be worked on.
     Refused(Refusal),

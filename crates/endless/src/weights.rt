@@ -6,9 +6,12 @@ ghost use Rattle.endless.specs.Weights.{weighing, kinds};
 
 use crate::place;
 
+// Each crate has this number of its own, as `drawing` and `pgsolver` read texts
+// and take no more from here than a `Side`.
 /// How many weights a place can have.
 pub const WEIGHTS: usize = 256;
 
+// An array, and no type as `playing::Counts`: it is read once, and never changed.
 /// For each weight how many places have it.
 pub fn tally(words: &[u32]) -> [u32; WEIGHTS]
     requires { (g : Game) × Reads words.now g }

@@ -67,21 +67,18 @@ mod tests {
         let mut work = vec![in rt.alloc(); 7; 65596]?;
         let work = work.as_mut_slice();
         assert!(rt; endless::check(&THREE, &[0, 1, 0, 9, 1, 2, 5], work).is_ok());
-        let few = matches!(
+        assert_eq!(rt;
             endless::check(&THREE, &[0, 1, 0, 9, 1, 2], &mut work[1..]),
             Err(Rejection::Refused(Refusal::Few))
         );
-        assert!(rt; few);
-        let none = matches!(
+        assert_eq!(rt;
             endless::check(&[1, 0, 0, 1, 1], &[0, 0], work),
             Err(Rejection::Refused(Refusal::NoGame))
         );
-        assert!(rt; none);
-        let short = matches!(
+        assert_eq!(rt;
             endless::check(&THREE, &[0, 1, 0, 9, 1], work),
             Err(Rejection::Wrong(Reason::Short))
         );
-        assert!(rt; short);
         Ok(())
     }
 
@@ -89,36 +86,42 @@ mod tests {
     fn an_answer_is_wrong(rt: HostRuntime) -> Result<(), Fail> {
         let mut work = vec![in rt.alloc(); 7; 65596]?;
         let work = work.as_mut_slice();
-        let neither = matches!(
+        assert_eq!(rt;
             endless::check(&THREE, &[0, 1, 2, 0, 1, 2], work),
             Err(Rejection::Wrong(Reason::NoSide(PlaceId(1))))
         );
-        assert!(rt; neither);
         // from 0 there is no move to 0; and 2 is not given to side 0
-        assert_eq!(rt; flaw(&[0, 0, 0, 0, 1, 2], work), (0, 1, 0, 0));
-        assert_eq!(rt; flaw(&[0, 2, 0, 0, 1, 2], work), (0, 2, 0, 0));
+        assert_eq!(rt;
+            endless::check(&THREE, &[0, 0, 0, 0, 1, 2], work),
+            flawed(Side::Even, Flaw::NoMove(PlaceId(0)))
+        );
+        assert_eq!(rt;
+            endless::check(&THREE, &[0, 2, 0, 0, 1, 2], work),
+            flawed(Side::Even, Flaw::Leaves(PlaceId(0)))
+        );
         // if 2 is side 0's, side 1 can go from there to 0, which is not
-        assert_eq!(rt; flaw(&[1, 1, 1, 0, 0, 2], work), (0, 3, 2, 0));
+        let (from, to) = (PlaceId(2), PlaceId(0));
+        assert_eq!(rt;
+            endless::check(&THREE, &[1, 1, 1, 0, 0, 2], work),
+            flawed(Side::Even, Flaw::Escape { from, to })
+        );
         // if all is side 0's, side 1 stays at 2, where 3 is the heaviest
-        assert_eq!(rt; flaw(&[0, 1, 0, 0, 0, 2], work), (0, 4, 2, 3));
+        let (through, heaviest) = (PlaceId(2), 3);
+        assert_eq!(rt;
+            endless::check(&THREE, &[0, 1, 0, 0, 0, 2], work),
+            flawed(Side::Even, Flaw::LosingRound { through, heaviest })
+        );
         // if all is side 1's, 0 and 1 make a round in which 2 is the heaviest
-        assert_eq!(rt; flaw(&[1, 1, 1, 0, 1, 2], work), (1, 4, 1, 2));
+        let (through, heaviest) = (PlaceId(1), 2);
+        assert_eq!(rt;
+            endless::check(&THREE, &[1, 1, 1, 0, 1, 2], work),
+            flawed(Side::Odd, Flaw::LosingRound { through, heaviest })
+        );
         Ok(())
     }
 
-    // whose plan has a flaw in the game of three places, which, and where
-    fn flaw(answer: &[u32], work: &mut [u32]) -> (u32, u32, u32, u32) {
-        let Err(Rejection::Wrong(Reason::Plan { side, flaw })) = endless::check(
-            &THREE, answer, work,
-        ) else {
-            return (9, 0, 0, 0);
-        };
-        let (kind, place, told) = match flaw {
-            Flaw::NoMove(place) => (1, place.0, 0),
-            Flaw::Leaves(place) => (2, place.0, 0),
-            Flaw::Escape { from, to } => (3, from.0, to.0),
-            Flaw::LosingRound { through, heaviest } => (4, through.0, heaviest),
-        };
-        (u32::from(side), kind, place, told)
+    // the answer has a plan with this flaw
+    fn flawed(side: Side, flaw: Flaw) -> Result<(), Rejection> {
+        Err(Rejection::Wrong(Reason::Plan { side, flaw }))
     }
 }

@@ -1,7 +1,7 @@
 use Rattle.std.proofs.Common.{ℕ, option_copied, sym, refl, ap, ◌∙◌, subst, arith, rules}
-use Rattle.endless.specs.Games.{other}
+use Rattle.endless.specs.Games.{Game, other}
 use Rattle.endless.specs.Says.{side, goes}
-use Rattle.endless.specs.Subgames.{Solves}
+use Rattle.endless.specs.Subgames.{Closed, Solves}
 use Rattle.endless.specs.Bits.{members}
 use Rattle.endless.specs.Sides.{number}
 use Rattle.endless.specs.Pulling.{Unchanged}
@@ -23,7 +23,7 @@ split_at_mut-left-requires t c = room_set c.loop-remaining.invariant.2 (omega (a
 pub level_by_parts-requires : goal.level_by_parts-requires
 level_by_parts-requires t c =
     let room = c.loop-remaining.invariant.2 in
-    let closed = c.take_part-count.ensures.taken.closed in
+    let closed = subst (λ (g : Game). Closed g (members c.loop-remaining.own) (members c.take_part-count.new.part)) c.places-places.ensures c.take_part-count.ensures.taken.closed in
     let heavy = c.bring_about_part-weight.ensures.heaviest (c.take_part-count.ensures.taken.some_place (omega (arith, c.loop-remaining.invariant.1))) in
     let part = c.take_part-count.ensures.taken.listed (option_copied c.save-beyond.result.0) c.save-beyond.ensures in
     let brought = c.bring_about_part-weight.ensures.brought room.subgame closed in (
@@ -48,7 +48,7 @@ loop-remaining-preserved t c =
       | else-below-gt0 w ↦ rw w.desk-is (desk_none _)
     ] in
     let room = c.loop-remaining.invariant.2 in
-    let closed = c.take_part-count.ensures.taken.closed in
+    let closed = subst (λ (g : Game). Closed g (members c.loop-remaining.own) (members c.take_part-count.new.part)) c.places-places.ensures c.take_part-count.ensures.taken.closed in
     let heavy = c.bring_about_part-weight.ensures.heaviest (c.take_part-count.ensures.taken.some_place (omega (arith, c.loop-remaining.invariant.1))) in
     let leveling = leveling_more c.loop-remaining.invariant.0
     (record {
