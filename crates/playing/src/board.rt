@@ -51,7 +51,9 @@ pub struct Board<'a> {
     answer: &'a [u32],
 }
 
-// Clauses see the game and the answer.
+// Clauses see the game and the answer. That this solves the game is no
+// invariant: `new` takes any answer, and to ask for a right one would ask more
+// of its callers, so that what follows the plan asks for it.
 impl<'a> Model for Board<'a> {
     ghost use Rattle.playing.specs.Solutions.{Solution};
 
