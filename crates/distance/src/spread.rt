@@ -24,6 +24,8 @@ pub fn clear(graph: &Graph, out: &mut [u32], awaited: &mut [u32])
     ensures cleared { Cleared graph.now (length graph.now) out.old out.new awaited.new }
     ensures playable { Playable graph.now }
 {
+    // By place: tried with `zip`, and of what an adapter of `iter_mut` writes
+    // nothing is known.
     for place in 0..graph.len() {
         let at = 2 * place as usize;
         let moves = graph.moves(place);
@@ -54,7 +56,8 @@ fn still_waits(graph: &Graph, side: Side, from: u32, awaited: &mut [u32]) -> boo
 struct Spreading<'g, 'r> {
     graph: &'g Graph<'g>,
     side: Side,
-    // Words, two for each place, as C has them (docs/FORMAT.md).
+    // Two words for each place, and no pairs: the C interface lends words, and
+    // what `number` and `goes` say of an answer is said of them.
     out: &'r mut [u32],
     queue: &'r mut [u32],
     awaited: &'r mut [u32],
