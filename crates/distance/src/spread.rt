@@ -1,19 +1,20 @@
 //! Numbers that spread from a target: the queue of places gone through in
 //! order, the nearest first.
-ghost use Rattle.std.specs.Prelude.{◌≡◌, ℕ, ◌+◌, ◌*◌, ◌<◌, ◌≤◌, List, [], length, take, ◌≢◌, slice_index};
+ghost use Rattle.std.specs.Prelude.{◌≡◌, ℕ, ◌*◌, ◌<◌, ◌≤◌, List, [], length, take, ◌≢◌, slice_index};
 ghost use Rattle.endless.specs.Games.{whose};
 ghost use Rattle.endless.specs.Says.{goes};
 ghost use Rattle.endless.specs.Sides.{number as side-number};
 ghost use Rattle.endless.specs.View.{Playable};
 ghost use Rattle.endless.specs.Graph.{sources};
 ghost use Rattle.endless.specs.Pulling.{Unchanged};
-ghost use Rattle.distance.specs.Spreading.{number, Measured, Spread, Looks, Kept, Roomy, Waited};
+ghost use Rattle.distance.specs.Spreading.{number, Measured, Spread, Looks, Roomy, Waited};
 ghost use Rattle.distance.specs.Distances.{Cleared};
 
 use endless::graph::Graph;
 use endless::side::Side;
 
 /// The number that says that a side cannot make sure of the target.
+// A word and no `Option`: the answer is words, as C has them (docs/FORMAT.md).
 pub const NEVER: u32 = 0xffff_ffff;
 
 /// Gives no place a number, each its first move, and counts its moves.
@@ -23,6 +24,8 @@ pub fn clear(graph: &Graph, out: &mut [u32], awaited: &mut [u32])
     ensures cleared { Cleared graph.now (length graph.now) out.old out.new awaited.new }
     ensures playable { Playable graph.now }
 {
+    // By place: tried with `zip`, and of what an adapter of `iter_mut` writes
+    // nothing is known.
     for place in 0..graph.len() {
         let at = 2 * place as usize;
         let moves = graph.moves(place);
@@ -47,61 +50,75 @@ fn still_waits(graph: &Graph, side: Side, from: u32, awaited: &mut [u32]) -> boo
     awaited[from as usize] > 0
 }
 
-/// Looks at `from`, which may move to `to`, for which one move more than from
-/// there makes `number`: a place of `side`'s gets that number and this move,
-/// one of the other's only where this was the last of its moves that were
-/// still awaited. The number of places in the queue then.
-fn pull(
-    graph: &Graph,
+/// Numbers that are being spread from a target: the answer so far, and the
+/// places that have a number, in the order in which they got it.
+#[derive(Drop)]
+struct Spreading<'g, 'r> {
+    graph: &'g Graph<'g>,
     side: Side,
-    from: u32,
-    to: u32,
-    number: u32,
-    out: &mut [u32],
-    queue: &mut [u32],
-    awaited: &mut [u32],
+    // Two words for each place, and no pairs: the C interface lends words, and
+    // what `number` and `goes` say of an answer is said of them.
+    out: &'r mut [u32],
+    queue: &'r mut [u32],
+    awaited: &'r mut [u32],
     tail: usize,
-) -> usize
-    requires playable { Playable graph.now }
-    requires roomy { Roomy graph.now out.old queue.old awaited.old }
-    requires spread { (target : ℕ) × (before : List ℕ) × (head : ℕ) × (i : ℕ) × Looks graph.now to number from head i queue.old out.old tail × Spread graph.now (side-number side) target before head (take i (sources 0 graph.now to)) out.old queue.old awaited.old tail }
-    ensures { (target : ℕ) (before : List ℕ) (head i : ℕ) → Looks graph.now to number from head i queue.old out.old tail → Spread graph.now (side-number side) target before head (take i (sources 0 graph.now to)) out.old queue.old awaited.old tail → Spread graph.now (side-number side) target before head (take (i + 1) (sources 0 graph.now to)) out.new queue.new awaited.new result × Kept out.old queue.old tail out.new queue.new result }
-{
-    let at = 2 * from as usize;
-    if out[at] != NEVER {
-        return tail;
-    }
-    if still_waits(graph, side, from, awaited) {
-        return tail;
-    }
-    out[at] = number;
-    out[at + 1] = to;
-    queue[tail] = from;
-    tail + 1
+    ghost playable: { Playable graph.now },
+    ghost roomy: { Roomy graph.now out.now queue.now awaited.now },
 }
 
-/// Looks at all places that may move to `to`, the first place of the queue
-/// that was not yet gone through.
-fn pull_all(
-    graph: &Graph,
-    side: Side,
-    to: u32,
-    out: &mut [u32],
-    queue: &mut [u32],
-    awaited: &mut [u32],
-    filled: usize,
-) -> usize
-    requires playable { Playable graph.now }
-    requires roomy { Roomy graph.now out.old queue.old awaited.old }
-    requires spread { (target : ℕ) × (before : List ℕ) × (head : ℕ) × (head < filled) × (slice_index queue.old head ≡ to) × Spread graph.now (side-number side) target before head [] out.old queue.old awaited.old filled }
-    ensures { (target : ℕ) (before : List ℕ) (head : ℕ) → head < filled → slice_index queue.old head ≡ to → Spread graph.now (side-number side) target before head [] out.old queue.old awaited.old filled → Spread graph.now (side-number side) target before (head + 1) [] out.new queue.new awaited.new result }
-{
-    let number = out[2 * to as usize] + 1;
-    let mut tail = filled;
-    for from in graph.preds(to) {
-        tail = pull(graph, side, *from, to, number, out, queue, awaited, tail);
+impl Spreading<'_, '_> {
+    ghost use Rattle.distance.specs.Steps.{Going, Same, Pulls, Advances, Measures};
+
+    /// Looks at `from`, which may move to `to`, for which one move more than
+    /// from there makes `number`: a place of the side's gets that number and
+    /// this move, one of the other's only where this was the last of its moves
+    /// that were still awaited.
+    fn pull(&mut self, from: u32, to: u32, number: u32)
+        requires { (target : ℕ) × (before : List ℕ) × (head : ℕ) × (i : ℕ) × Looks self.old.graph.now to number from head i self.old.queue.now self.old.out.now self.old.tail × Going self.old target before head (take i (sources 0 self.old.graph.now to)) }
+        ensures same { Same self.old self.new }
+        ensures pulls { Pulls self.old from to number self.new }
+    {
+        let at = 2 * from as usize;
+        if self.out[at] != NEVER {
+            return;
+        }
+        let awaited = &mut *self.awaited;
+        if still_waits(self.graph, self.side, from, awaited) {
+            return;
+        }
+        self.out[at] = number;
+        self.out[at + 1] = to;
+        self.queue[self.tail] = from;
+        self.tail += 1;
     }
-    tail
+
+    /// Looks at all places that may move to `to`, the first place of the queue
+    /// that was not yet gone through.
+    fn pull_all(&mut self, to: u32)
+        requires { (target : ℕ) × (before : List ℕ) × (head : ℕ) × (head < self.old.tail) × (slice_index self.old.queue.now head ≡ to) × Going self.old target before head [] }
+        ensures same { Same self.old self.new }
+        ensures advances { Advances self.old to self.new }
+    {
+        let number = self.out[2 * to as usize] + 1;
+        for from in self.graph.preds(to) {
+            self.pull(*from, to, number);
+        }
+    }
+
+    /// Goes through the queue, up to its end.
+    fn spread(&mut self)
+        requires { (target : ℕ) × (before : List ℕ) × Going self.old target before 0 [] }
+        ensures same { Same self.old self.new }
+        ensures measures { Measures self.old self.new }
+    {
+        let mut head = 0;
+        // The queue grows on the way, so that no iterator can borrow it.
+        while head < self.tail {
+            let to = self.queue[head];
+            head += 1;
+            self.pull_all(to);
+        }
+    }
 }
 
 /// Spreads the numbers from the target, the one place in the queue, as far as
@@ -112,11 +129,13 @@ pub fn spread(graph: &Graph, side: Side, out: &mut [u32], queue: &mut [u32], awa
     requires spread { (target : ℕ) × (before : List ℕ) × Spread graph.now (side-number side) target before 0 [] out.old queue.old awaited.old 1 }
     ensures { (target : ℕ) (before : List ℕ) → Spread graph.now (side-number side) target before 0 [] out.old queue.old awaited.old 1 → Measured graph.now (side-number side) target (number out.new) (goes out.new) × ((n : ℕ) → length graph.now ≤ n → Unchanged before out.new n) }
 {
-    let mut head = 0;
-    let mut tail = 1;
-    // The queue grows on the way, so that no iterator can borrow it.
-    while head < tail {
-        tail = pull_all(graph, side, queue[head], out, queue, awaited, tail);
-        head += 1;
-    }
+    let mut spreading = Spreading {
+        graph,
+        side,
+        out,
+        queue,
+        awaited,
+        tail: 1,
+    };
+    spreading.spread();
 }

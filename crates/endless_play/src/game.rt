@@ -56,7 +56,7 @@ fn start<'a>(rt: &HostRuntime, job: Job, board: Board<'a>, names: &'a [String]) 
         side,
         moves,
     };
-    show::start(rt, &table, file.as_str(), first)?;
+    table.show_start(rt, file.as_str(), first)?;
     let mut input = BufReader::new(rt.alloc(), rt.stdin())?;
     let mut play = Play::new(rt.alloc(), table, first)?;
     play.run(rt, &mut input)

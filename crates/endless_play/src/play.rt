@@ -83,7 +83,7 @@ impl<'a> Play<'a> {
         ensures unasked { IfOk result (Unasked self.now) }
     {
         let table = &self.table;
-        show::place(rt, table, self.place)?;
+        table.show_place(rt, self.place)?;
         if table.has_choice(self.place) {
             return self.ask(rt, input);
         }
@@ -102,7 +102,7 @@ impl<'a> Play<'a> {
     {
         let table = &self.table;
         let moves = table.board.moves(self.place);
-        show::moves(rt, table, moves)?;
+        table.show_moves(rt, moves)?;
         // Only the input ends it, so that there is nothing else to go over.
         for _ in 0..u64::MAX {
             match heard(rt.alloc(), input, table.names, moves)? {
@@ -119,7 +119,7 @@ impl<'a> Play<'a> {
     }
 
     fn tell_status(&self, rt: &HostRuntime) -> Result<(), Fault> {
-        show::status(rt, &self.table, &self.trail, self.place)
+        self.table.show_status(rt, &self.trail, self.place)
     }
 
     /// Makes the turn.
@@ -157,7 +157,7 @@ impl<'a> Play<'a> {
     {
         let table = &self.table;
         let to = steps::step(&table.board, table.side, self.place, choice);
-        show::moved(rt, table, self.place, to)?;
+        table.show_move(rt, self.place, to)?;
         let weight = table.board.weight(to);
         self.trail.come(weight)?;
         self.place = to;

@@ -1,6 +1,8 @@
 -- What a solved game says of its places, and of a step.
-use Rattle.std.specs.Prelude.{◌+◌, ◌*◌, ◌≤◌, All, IfSome, MatchResult, Ok, Err, Result}
-use Rattle.std.proofs.Common.{◌≡◌, ℕ, zero, suc, ◌<◌, List, [], ◌∷◌, length, get_or, Some, None, Option, sym, refl, ap, ◌∙◌, subst, arith}
+use Rattle.std.specs.Prelude.{◌+◌, ◌*◌, ◌≤◌, All, IfOk, IfSome, MatchResult, Ok, Err, Result}
+use Rattle.std.proofs.Common.{true, ◌≡◌, ℕ, zero, suc, ◌<◌, List, [], ◌∷◌, length, get_or, Some, None, Option, sym, refl, ap, ◌∙◌, subst, arith}
+use Rattle.std.proofs.lemmas.Bool.{both_ways}
+use Rattle.std.specs.Result.{is_ok}
 use Rattle.endless.specs.Games.{Game, Reads, Among, first, later, May}
 use Rattle.endless.specs.Graph.{moves}
 use Rattle.endless.specs.Says.{WinsFrom, goes}
@@ -30,6 +32,11 @@ answered_too {o = o} r r' a = subst (λ g. Answered g o) (sym (game_in_reads _ _
 -- a board of the game that words are, with the answer that solves them
 pub answered_board : {s o : List ℕ} (b : Solution) → Reads s b.game → b.answer ≡ o → (g : Game) × (Reads s g × Answered g o) → Answered b.game b.answer
 answered_board b reads is solved = subst (Answered b.game) (sym is) (answered_too solved.1.0 reads solved.1.1)
+
+-- what is promised of an `Ok` holds, where `ok` gave something
+pub held : {P : Type 0} (r : Result (Unit {0}) Refusal) → true ≡ is_ok r → IfOk r (λ _. P) → P
+held (Ok u) e p = p
+held (Err _) e p = absurd (both_ways true e refl)
 
 pub answered_if : (s o : List ℕ) (r : Option Solution) → IfSome r (λ b. Reads s b.game) → IfSome r (λ b. b.answer ≡ o) → (g : Game) × (Reads s g × Answered g o)
     → IfSome r (λ b. Reads s b.game × Answered b.game b.answer)

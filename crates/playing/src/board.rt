@@ -10,19 +10,20 @@ use endless::answer::PlaceId;
 use endless::graph::Places;
 use endless::positions::Halves;
 use endless::side::Side;
-use endless::{answer, is_game};
+use endless::{Refusal, answer, is_game};
 use std::alloc::{AllocError, Global};
 use std::marker::Model;
 
-/// Solves the game that these words are: the answer, in the words that are
-/// lent for it. The other words are lent: two for each place for `answer`, and
-/// for `work` what the solver asks for, which can be let go afterwards. `None`
-/// where the words are no game, or too few are lent.
-pub fn solve<'a>(words: &[u32], answer: &'a mut [u32], work: &mut [u32]) -> Option<&'a [u32]>
-    ensures { IfSome result (λ o. (g : Game) × (Reads words.now g × Answered g o.now)) }
+/// Solves the game that these words are: writes the answer to `answer`. The
+/// other words are lent: two for each place for `answer`, and for `work` what
+/// the solver asks for, which can be let go afterwards.
+// The answer is not returned: tried, and of words that are lent for as long as
+// a shared result lives the kit proves nothing of how they end.
+pub fn solve(words: &[u32], answer: &mut [u32], work: &mut [u32]) -> Result<(), Refusal>
+    ensures { IfOk result (λ _. (g : Game) × (Reads words.now g × Answered g answer.new)) }
 {
-    endless::solve(words, answer, work).ok()?;
-    Some(answer)
+    endless::solve(words, answer, work)?;
+    Ok(())
 }
 
 /// Solves the game that these words are, on the heap: the answer, two words
@@ -50,7 +51,9 @@ pub struct Board<'a> {
     answer: &'a [u32],
 }
 
-// Clauses see the game and the answer.
+// Clauses see the game and the answer. That this solves the game is no
+// invariant: `new` takes any answer, and to ask for a right one would ask more
+// of its callers, so that what follows the plan asks for it.
 impl<'a> Model for Board<'a> {
     ghost use Rattle.playing.specs.Solutions.{Solution};
 
@@ -71,7 +74,7 @@ impl<'a> Board<'a> {
     ) -> Option<Board<'a>>
         ensures { IfSome result (λ b. Reads words.now b.game × Answered b.game b.answer) }
     {
-        let answer = solve(words, answer, work)?;
+        solve(words, answer, work).ok()?;
         Board::new(words, answer, starts)
     }
 

@@ -79,14 +79,8 @@ impl Trail {
         ensures { LeftAt (length self.now.weights) self.now.made made result }
     {
         let kept = self.weights.len() as u64;
-        if made > self.made {
-            return None;
-        }
-        let taken = self.made - made;
-        if taken > kept {
-            return None;
-        }
-        let left = kept - taken;
+        let taken = self.made.checked_sub(made)?;
+        let left = kept.checked_sub(taken)?;
         if left < window::MOST as u64 && left <= made {
             return None;
         }
