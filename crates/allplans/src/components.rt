@@ -90,7 +90,7 @@ impl Walk<'_> {
     /// Walks from `start` to all that can be reached and was not yet met.
     fn go(&mut self, start: usize) -> Result<(), Fault> {
         self.meet(start)?;
-        // (c) `while let` was tried: what falls, the places not met and the moves left, is told by no step.
+        // `while let` was tried, and not proved: what falls, new places and moves left, is told by no step.
         for _ in 0..u64::MAX {
             let Some(mut step) = self.path.pop() else {
                 break;
