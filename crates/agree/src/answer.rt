@@ -12,6 +12,7 @@ pub(crate) fn attractor(
     out: &mut [u32],
     work: &mut [u32],
 ) -> Result<(), Refusal> {
+    // No `From`: both types are of other crates.
     let side = match side {
         Side::Even => endless::side::Side::Even,
         Side::Odd => endless::side::Side::Odd,

@@ -16,6 +16,7 @@ use std::alloc::Global;
 use std::process::ExitCode;
 use trial::{by_all_plans, by_rounds};
 
+// As in the other programs: below them all is only the solver, which prints nothing.
 fn main(rt: HostRuntime) -> ExitCode {
     match run(&rt) {
         Ok(()) => ExitCode::SUCCESS,

@@ -58,6 +58,7 @@ impl Tally {
 }
 
 /// What was found wrong.
+// In an `Option`, as no error: it is what is asked for here, and `?` passes on why it cannot be told.
 #[derive(Drop)]
 pub enum Wrong {
     /// The solver gave no answer.

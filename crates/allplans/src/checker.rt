@@ -1,8 +1,9 @@
 //! Whether an answer is right: a plain look at places and rounds.
-ghost use Rattle.std.specs.Prelude.{◌≡◌, ℕ, ◌%◌, ◌<◌, true, length, OnOk, ◌≢◌, slice_index, slice_index_or};
+ghost use Rattle.std.specs.Prelude.{◌≡◌, ℕ, ◌+◌, ◌%◌, ◌<◌, true, false, length, IsSome, OnOk, ◌≢◌, slice_index, slice_index_or};
 ghost use Rattle.allplans.specs.Checked.{AllWon, Holds, NoWrongRound, RightAnswer};
 ghost use Rattle.allplans.specs.Claims.{plan, winners};
 ghost use Rattle.allplans.specs.Rounds.{NoRoundIn};
+ghost use Rattle.allplans.specs.Sets.{known, unknown};
 ghost use Rattle.allplans.specs.Sides.{side_word};
 
 pub use crate::answer::{Answer, Claim};
@@ -98,8 +99,8 @@ pub fn check(heap: Global, game: &Game, answer: &Answer) -> Result<(), Refusal>
 fn look_at_all(claimed: Claimed) -> Result<(), Wrong>
     ensures { OnOk result ((v : ℕ) (d : Place) → v < length claimed.entry.places.now → Holds (slice_index_or claimed.entry.places.now v d) (slice_index (plan claimed.entry.claims.now) v) (winners claimed.entry.claims.now) (slice_index (winners claimed.entry.claims.now) v)) }
 {
-    for (place, here) in claimed.places.iter().enumerate() {
-        look_at(claimed, place, here, claimed.claims[place])?;
+    for (place, (here, claim)) in claimed.places.iter().zip(claimed.claims).enumerate() {
+        look_at(claimed, place, here, *claim)?;
     }
     Ok(())
 }
@@ -181,8 +182,8 @@ fn wrong_round(heap: Global, view: View) -> Result<(), Refusal>
 
 /// The round by this move, where there is one.
 fn round(heap: Global, view: View, along: Move) -> Result<Wrong, Fault> {
-    let before = search(heap, view, along.to)?;
-    let round = way_back(heap, before.as_slice(), along)?;
+    let mut before = search(heap, view, along.to)?;
+    let round = way_back(heap, before.as_mut_slice(), along)?;
     Ok(round.map_or(Wrong::Unclear, Wrong::WrongRound))
 }
 
@@ -190,24 +191,32 @@ fn round(heap: Global, view: View, along: Move) -> Result<Wrong, Fault> {
 /// each.
 fn way_back(
     heap: Global,
-    before: &[Option<usize>],
+    before: &mut [Option<usize>],
     along: Move,
 ) -> Result<Option<Vec<usize>>, Fault> {
-    let mut round = Vec::new(heap);
+    let mut round = vec![in heap; along.from]?;
     let mut place = along.from;
-    // A round has no more places, and that one comes to its end is not proved.
-    for _ in before {
-        round.push(place)?;
-        if place == along.to {
-            round.reverse();
-            return Ok(Some(round));
-        }
-        let Some(Some(step)) = before.get(place) else {
-            break;
+    while place != along.to {
+        let Some(step) = take_step(before, place) else {
+            return Ok(None);
         };
-        place = *step;
+        round.push(step)?;
+        place = step;
     }
-    Ok(None)
+    round.reverse();
+    Ok(Some(round))
+}
+
+/// The place before this one. It is taken away, so that no way goes by it again.
+fn take_step(before: &mut [Option<usize>], place: usize) -> Option<usize>
+    ensures { IsSome result → known before.new + 1 ≡ known before.old }
+{
+    let Some(Some(step)) = before.get(place) else {
+        return None;
+    };
+    let step = *step;
+    before[place] = None;
+    Some(step)
 }
 
 /// For each place that can be reached from `start`: a place before it on a
@@ -217,11 +226,7 @@ fn search(heap: Global, view: View, start: usize) -> Result<Vec<Option<usize>>, 
     let mut before = vec![in heap; None; places]?;
     let mut queue = VecDeque::new(heap);
     queue.push_back(start)?;
-    // Each place comes into the queue once, and the start once more.
-    for _ in 0..=places {
-        let Some(place) = queue.pop_front() else {
-            break;
-        };
+    while let Some(place) = queue.pop_front() {
         for to in view.moves(place) {
             let to = *to as usize;
             if view.has(to) && put_before(before.as_mut_slice(), to, place) {
@@ -234,12 +239,13 @@ fn search(heap: Global, view: View, start: usize) -> Result<Vec<Option<usize>>, 
 
 /// Writes down which place comes before `to`, if none is known yet, and says
 /// whether it did.
-fn put_before(before: &mut [Option<usize>], to: usize, place: usize) -> bool {
-    match before.get_mut(to) {
-        Some(known) if known.is_none() => {
-            *known = Some(place);
-            true
-        }
-        _ => false,
-    }
+fn put_before(before: &mut [Option<usize>], to: usize, place: usize) -> bool
+    ensures new { result ≡ true → unknown before.new + 1 ≡ unknown before.old }
+    ensures old { result ≡ false → unknown before.new ≡ unknown before.old }
+{
+    let Some(None) = before.get(to) else {
+        return false;
+    };
+    before[to] = Some(place);
+    true
 }

@@ -61,6 +61,7 @@ struct Step<'a> {
 }
 
 /// A walk through a view, each move once (Tarjan 1972).
+// One of its own: `allplans` shares nothing with the solver but words (docs/AGREE.md).
 #[derive(Drop)]
 struct Walk<'a> {
     view: View<'a>,
@@ -89,7 +90,7 @@ impl Walk<'_> {
     /// Walks from `start` to all that can be reached and was not yet met.
     fn go(&mut self, start: usize) -> Result<(), Fault> {
         self.meet(start)?;
-        // The count only shows that the walk ends.
+        // `while let` was tried, and not proved: what falls, new places and moves left, is told by no step.
         for _ in 0..u64::MAX {
             let Some(mut step) = self.path.pop() else {
                 break;

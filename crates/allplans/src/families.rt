@@ -203,48 +203,63 @@ fn lowest_bit(n: u32) -> u32 {
 /// grow by three a level. The moves of c and e, and the sides of a and b, were
 /// found by trying; they may differ from the original's.
 pub fn recursive_ladder(heap: Global, levels: u8) -> Result<FineGame, Fault> {
-    let ladder = Rungs {
-        levels: u32::from(levels),
+    let levels = u32::from(levels);
+    let mut making = LadderGame {
+        game: Builder::new(heap),
+        ladder: Rungs { levels },
     };
-    let mut game = Builder::new(heap);
-    for level in 0..ladder.levels {
-        add_side_rungs(&mut game, ladder, level)?;
+    for level in 0..levels {
+        making.add_side_rungs(level)?;
     }
-    for level in 0..ladder.levels {
-        add_rungs(&mut game, ladder, level)?;
+    for level in 0..levels {
+        making.add_rungs(level)?;
     }
-    game.finish()
+    making.game.finish()
 }
 
-/// The places a and b of a level.
-fn add_side_rungs(game: &mut Builder, ladder: Rungs, level: u32) -> Result<(), Fault> {
-    let whose = Side::of(level);
-    let other = whose.other();
-    game.place(other, u32::from(whose), &[ladder.b(level)])?;
-    game.place(whose, u32::from(other), &[ladder.a(level)])?;
-    let above = level.saturating_add(1);
-    if above < ladder.levels {
-        game.go(ladder.c(above))?;
-        game.go(ladder.b(above))?;
-    }
-    Ok(())
+/// A recursive ladder in the making.
+#[derive(Drop)]
+struct LadderGame {
+    game: Builder,
+    ladder: Rungs,
 }
 
-/// The places c, d and e of a level.
-fn add_rungs(game: &mut Builder, ladder: Rungs, level: u32) -> Result<(), Fault> {
-    let whose = Side::of(level);
-    let other = whose.other();
-    let down = [ladder.b(level), ladder.d(level)];
-    game.place(other, cell(level, 3, 5), &down)?;
-    game.place(whose, cell(level, 3, 4), &[ladder.e(level)])?;
-    if level > 0 {
-        game.go(ladder.d(level - 1))?;
+impl LadderGame {
+    /// The places a and b of a level.
+    fn add_side_rungs(&mut self, level: u32) -> Result<(), Fault> {
+        let ladder = self.ladder;
+        let whose = Side::of(level);
+        let other = whose.other();
+        self.game
+            .place(other, u32::from(whose), &[ladder.b(level)])?;
+        self.game
+            .place(whose, u32::from(other), &[ladder.a(level)])?;
+        let above = level.saturating_add(1);
+        if above < ladder.levels {
+            self.game.go(ladder.c(above))?;
+            self.game.go(ladder.b(above))?;
+        }
+        Ok(())
     }
-    let above = level.saturating_add(1);
-    if above < ladder.levels {
-        game.go(ladder.d(above))?;
+
+    /// The places c, d and e of a level.
+    fn add_rungs(&mut self, level: u32) -> Result<(), Fault> {
+        let ladder = self.ladder;
+        let whose = Side::of(level);
+        let other = whose.other();
+        let down = [ladder.b(level), ladder.d(level)];
+        self.game.place(other, cell(level, 3, 5), &down)?;
+        self.game
+            .place(whose, cell(level, 3, 4), &[ladder.e(level)])?;
+        if level > 0 {
+            self.game.go(ladder.d(level - 1))?;
+        }
+        let above = level.saturating_add(1);
+        if above < ladder.levels {
+            self.game.go(ladder.d(above))?;
+        }
+        self.game.place(other, cell(level, 3, 3), &down)
     }
-    game.place(other, cell(level, 3, 3), &down)
 }
 
 /// The numbers of the places of a recursive ladder, level by level from 0:
@@ -287,94 +302,113 @@ impl Rungs {
 /// they stay below 256: this keeps the winners, but not the steps that the
 /// original is made for. `lead` more places lead to the entries.
 pub fn binary_counter(heap: Global, bits: u8, lead: u8) -> Result<FineGame, Fault> {
-    let counter = Counter {
-        bits: u32::from(bits),
+    let bits = u32::from(bits);
+    let mut making = CounterGame {
+        game: Builder::new(heap),
+        counter: Counter { bits },
     };
-    let mut game = Builder::new(heap);
-    add_entries(&mut game, counter)?;
-    add_lanes(&mut game, counter)?;
-    for bit in 0..counter.bits {
-        add_round(&mut game, counter, bit)?;
-        add_choices(&mut game, counter, bit)?;
+    making.add_entries()?;
+    making.add_lanes()?;
+    for bit in 0..bits {
+        making.add_round(bit)?;
+        making.add_choices(bit)?;
     }
-    add_lead(&mut game, counter, u32::from(lead))?;
-    game.finish()
+    making.add_lead(u32::from(lead))?;
+    making.game.finish()
 }
 
-/// The sink, the crossing and the entries.
-fn add_entries(game: &mut Builder, counter: Counter) -> Result<(), Fault> {
-    let weight = cell(counter.bits, 6, 2);
-    game.place(Side::Even, 1, &[counter.x()])?;
-    game.place(Side::Even, weight, &[counter.s(), counter.r()])?;
-    game.place(Side::Even, weight, &[counter.x()])?;
-    for bit in 0..counter.bits {
-        game.go(counter.f(bit))?;
-    }
-    game.place(Side::Even, weight, &[counter.x()])?;
-    for bit in 0..counter.bits {
-        game.go(counter.g(bit))?;
-    }
-    Ok(())
+/// A binary counter in the making.
+#[derive(Drop)]
+struct CounterGame {
+    game: Builder,
+    counter: Counter,
 }
 
-/// The lanes: t, one to the next, and from each a to its t.
-fn add_lanes(game: &mut Builder, counter: Counter) -> Result<(), Fault> {
-    let lane = cell(counter.bits, 2, 0);
-    for i in 0..lane {
-        let next = match i.checked_sub(1) {
-            Some(before) => counter.t(before),
-            None => counter.c(),
-        };
-        game.place(
-            Side::Even,
-            cell(i, 2, lane.wrapping_add(3)),
-            &[counter.s(), counter.r(), next],
-        )?;
+impl CounterGame {
+    /// The sink, the crossing and the entries.
+    fn add_entries(&mut self) -> Result<(), Fault> {
+        let counter = self.counter;
+        let weight = cell(counter.bits, 6, 2);
+        self.game.place(Side::Even, 1, &[counter.x()])?;
+        self.game
+            .place(Side::Even, weight, &[counter.s(), counter.r()])?;
+        self.game.place(Side::Even, weight, &[counter.x()])?;
+        for bit in 0..counter.bits {
+            self.game.go(counter.f(bit))?;
+        }
+        self.game.place(Side::Even, weight, &[counter.x()])?;
+        for bit in 0..counter.bits {
+            self.game.go(counter.g(bit))?;
+        }
+        Ok(())
     }
-    for i in 0..lane {
-        game.place(
-            Side::Even,
-            cell(i, 2, lane.wrapping_add(4)),
-            &[counter.t(i)],
-        )?;
-    }
-    Ok(())
-}
 
-/// The places d, e and g of a bit.
-fn add_round(game: &mut Builder, counter: Counter, bit: u32) -> Result<(), Fault> {
-    let low = cell(bit, 2, 3);
-    let above = low.wrapping_add(1);
-    game.place(Side::Even, low, &[counter.s(), counter.e(bit), counter.r()])?;
-    for i in 0..cell(bit, 2, 2) {
-        game.go(counter.a(i))?;
+    /// The lanes: t, one to the next, and from each a to its t.
+    fn add_lanes(&mut self) -> Result<(), Fault> {
+        let counter = self.counter;
+        let lane = cell(counter.bits, 2, 0);
+        for i in 0..lane {
+            let next = match i.checked_sub(1) {
+                Some(before) => counter.t(before),
+                None => counter.c(),
+            };
+            self.game.place(
+                Side::Even,
+                cell(i, 2, lane.wrapping_add(3)),
+                &[counter.s(), counter.r(), next],
+            )?;
+        }
+        for i in 0..lane {
+            self.game.place(
+                Side::Even,
+                cell(i, 2, lane.wrapping_add(4)),
+                &[counter.t(i)],
+            )?;
+        }
+        Ok(())
     }
-    game.place(Side::Odd, above, &[counter.d(bit), counter.h(bit)])?;
-    game.place(Side::Even, above, &[counter.f(bit), counter.k(bit)])
-}
 
-/// The places k, f and h of a bit.
-fn add_choices(game: &mut Builder, counter: Counter, bit: u32) -> Result<(), Fault> {
-    let high = cell(counter.bits, 6, cell(bit, 2, 3));
-    game.place(Side::Even, high, &[counter.x()])?;
-    for higher in bit.saturating_add(1)..counter.bits {
-        game.go(counter.g(higher))?;
+    /// The places d, e and g of a bit.
+    fn add_round(&mut self, bit: u32) -> Result<(), Fault> {
+        let counter = self.counter;
+        let low = cell(bit, 2, 3);
+        let above = low.wrapping_add(1);
+        self.game.place(Side::Even, low, &[counter.s(), counter.e(bit), counter.r()])?;
+        for i in 0..cell(bit, 2, 2) {
+            self.game.go(counter.a(i))?;
+        }
+        self.game
+            .place(Side::Odd, above, &[counter.d(bit), counter.h(bit)])?;
+        self.game
+            .place(Side::Even, above, &[counter.f(bit), counter.k(bit)])
     }
-    game.place(Side::Even, high, &[counter.e(bit)])?;
-    game.place(Side::Even, high.wrapping_add(1), &[counter.k(bit)])
-}
 
-/// The places that lead to the entries.
-fn add_lead(game: &mut Builder, counter: Counter, lead: u32) -> Result<(), Fault> {
-    for place in 0..lead {
-        let next = if place + 1 < lead {
-            counter.end().wrapping_add(place).wrapping_add(1)
-        } else {
-            counter.s()
-        };
-        game.place(Side::Odd, place % 2, &[next, counter.r()])?;
+    /// The places k, f and h of a bit.
+    fn add_choices(&mut self, bit: u32) -> Result<(), Fault> {
+        let counter = self.counter;
+        let high = cell(counter.bits, 6, cell(bit, 2, 3));
+        self.game.place(Side::Even, high, &[counter.x()])?;
+        for higher in bit.saturating_add(1)..counter.bits {
+            self.game.go(counter.g(higher))?;
+        }
+        self.game.place(Side::Even, high, &[counter.e(bit)])?;
+        self.game
+            .place(Side::Even, high.wrapping_add(1), &[counter.k(bit)])
     }
-    Ok(())
+
+    /// The places that lead to the entries.
+    fn add_lead(&mut self, lead: u32) -> Result<(), Fault> {
+        let counter = self.counter;
+        for place in 0..lead {
+            let next = if place + 1 < lead {
+                counter.end().wrapping_add(place).wrapping_add(1)
+            } else {
+                counter.s()
+            };
+            self.game.place(Side::Odd, place % 2, &[next, counter.r()])?;
+        }
+        Ok(())
+    }
 }
 
 /// The numbers of the places of a counter, bits and lanes from 0.

@@ -76,6 +76,7 @@ impl Game {
     }
 
     /// One more place.
+    // `whose` stays a word: callers may add any, and `checked` refuses.
     pub fn add(&mut self, whose: u32, weight: u32, moves: Vec<u32>) -> Result<(), Fault> {
         self.places.push(Place {
             whose,

@@ -61,6 +61,7 @@ fn won_by(heap: Global, game: &Game, side: Side) -> Result<Vec<bool>, Fault> {
 
 /// Counts on to the next plan of `side`: `choice` has, for each of its
 /// places, which of the moves is taken. `false` after the last plan.
+// No iterator over plans: one cannot lend what it changes.
 fn next_plan(game: &Game, side: Side, choice: &mut [usize]) -> bool {
     for (place, chosen) in game.places.iter().zip(choice.iter_mut()) {
         if place.is_of(side) {

@@ -6,6 +6,7 @@ use std::error::Error;
 use std::fmt;
 
 /// A side: the one that wins by even weights, or the one that wins by odd ones.
+// One of its own: `allplans` shares nothing with the solver but words (docs/AGREE.md).
 #[derive(Clone, Copy, PartialEq, Eq, Debug)]
 pub enum Side {
     Even,

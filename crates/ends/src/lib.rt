@@ -36,14 +36,9 @@ pub fn solve_with_ends(words: &[u32], out: &mut [u32], work: &mut [u32]) -> Resu
 fn told(words: &[u32]) -> usize
     ensures { result ≡ told words.now }
 {
-    let [places, ..] = words else {
-        return 0;
-    };
-    if *places > MOST_PLACES {
-        MOST_PLACES as usize
-    } else {
-        *places as usize
-    }
+    words
+        .first()
+        .map_or(0, |places| (*places).min(MOST_PLACES) as usize)
 }
 
 /// Whether 65,536 words are lent, and 5 for each word and each place.
