@@ -25,6 +25,8 @@ pub fn find_starts(words: &[u32], starts: &mut [Halves])
     ensures { (g : Game) → Reads words.now g → Placed words.now g (positions starts.new) }
 {
     let mut at = 1;
+    // By number: tried `zip`, and that `at` fits was not shown without an
+    // invariant, which is said by this number.
     for (i, head) in heads_of(words).enumerate() {
         starts[i] = halves(at);
         at += 3 + head.moves as usize;

@@ -62,6 +62,7 @@ impl Claim<'_> {
         requires ranks { length self.now.graph.now ≤ length ranks.now }
         ensures { result ≡ true → FallsAt self.now.graph.now (members self.now.set.now) (number self.now.side) (goes self.now.answer.now) heaviest ranks.now place }
     {
+        // A loop: `all` was tried, and what it tells of each move was not found.
         for to in self.graph.moves(place) {
             if !self.follows_along(heaviest, ranks, place, *to) {
                 return false;

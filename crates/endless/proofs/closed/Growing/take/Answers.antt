@@ -1,4 +1,4 @@
-use Rattle.std.proofs.Common.{◌<◌, length, sym, refl, arith}
+use Rattle.std.proofs.Common.{sym, refl, arith}
 use Rattle.endless.proofs.Parts.{spread_room, spread_one}
 use Rattle.endless.proofs.closed.Growing.take.Goals as goal
 
