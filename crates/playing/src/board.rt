@@ -17,8 +17,9 @@ use std::marker::Model;
 /// Solves the game that these words are: writes the answer to `answer`. The
 /// other words are lent: two for each place for `answer`, and for `work` what
 /// the solver asks for, which can be let go afterwards.
-// The answer is not returned: tried, and of words that are lent for as long as
-// a shared result lives the kit proves nothing of how they end.
+// The answer is not returned: tried, and how words end that are lent for as
+// long as a shared result lives was not proved (docs/BORROWS.md of Rattle has
+// `follows_so` for it, and no proof for a slice).
 pub fn solve(words: &[u32], answer: &mut [u32], work: &mut [u32]) -> Result<(), Refusal>
     ensures { IfOk result (λ _. (g : Game) × (Reads words.now g × Answered g answer.new)) }
 {
