@@ -7,7 +7,6 @@ use Rattle.std.proofs.lemmas.List.{length-map, take_more, take_all, get_or-map, 
 use Rattle.std.specs.List.{zip, enumerate_from}
 use Rattle.std.proofs.lemmas.List.FromFn.{length-enumerate_from, get_or-enumerate_from}
 use Rattle.std.proofs.lemmas.Slice.Zip.{length-zip, get_or-zip}
-use Rattle.pgsolver.specs.declared.text.Node.{Node}
 use Rattle.std.proofs.lemmas.Bool.{cases_lt, lt-ltb, and_from}
 use Rattle.endless.specs.Games.{Place, below, some_of, row as words}
 use Rattle.endless.specs.Sides.{number}
@@ -152,11 +151,11 @@ words_all ids es ws now r n s end =
     s.onward now (subst (λ x. Played ids x (drop n ws) now now) (sym (drop_all n es end)) (subst (λ x. Played ids [] x now now) (sym (drop_all n ws (omega (arith, end, r.weighed)))) (record { whole = []; game = []; is = sym (append-nil now); ok = refl; alike = tt; weighs = refl; places = tt })))
 
 -- a node and its weight come together
-pub paired : (nodes : List Node) (ws : List ℕ) (i n w : ℕ) (d : Node) → i < length (zip (enumerate_from 0 nodes) ws) → ◌≡◌ {A = (ℕ × Node) × ℕ} ((n, d), w) (get_or (zip (enumerate_from 0 nodes) ws) i ((n, d), w)) → (i < length nodes) × (i ≡ n) × (d ≡ get_or nodes n d) × (w ≡ get_or ws n 0)
+pub paired : (nodes : List Entry) (ws : List ℕ) (i n w : ℕ) (d : Entry) → i < length (zip (enumerate_from 0 nodes) ws) → ◌≡◌ {A = (ℕ × Entry) × ℕ} ((n, d), w) (get_or (zip (enumerate_from 0 nodes) ws) i ((n, d), w)) → (i < length nodes) × (i ≡ n) × (d ≡ get_or nodes n d) × (w ≡ get_or ws n 0)
 paired nodes ws i n w d l e =
-    let all : List (ℕ × Node) = enumerate_from 0 nodes in
+    let all : List (ℕ × Entry) = enumerate_from 0 nodes in
     let low : i < length nodes = omega (arith, l, length-zip all ws, length-enumerate_from 0 nodes) in
     let under : i < length ws = omega (arith, l, length-zip all ws) in
-    let t : ◌≡◌ {A = (ℕ × Node) × ℕ} ((n, d), w) ((0 + i, get_or nodes i d), get_or ws i w) = e ∙ get_or-zip all ws i ((n, d), w) (omega (arith, low, length-enumerate_from 0 nodes)) under ∙ ap (λ p. (p, get_or ws i w)) (get_or-enumerate_from 0 nodes i (n, d) low) in
+    let t : ◌≡◌ {A = (ℕ × Entry) × ℕ} ((n, d), w) ((0 + i, get_or nodes i d), get_or ws i w) = e ∙ get_or-zip all ws i ((n, d), w) (omega (arith, low, length-enumerate_from 0 nodes)) under ∙ ap (λ p. (p, get_or ws i w)) (get_or-enumerate_from 0 nodes i (n, d) low) in
     let same : i ≡ n = let z : n ≡ 0 + i = ap (λ p. p.0.0) t in omega arith in
     (low, same, ap (λ p. p.0.1) t ∙ ap (λ k. get_or nodes k d) same, get_or_read ws i w under (ap (λ p. p.1) t) 0 ∙ ap (λ k. get_or ws k 0) same)

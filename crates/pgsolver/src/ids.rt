@@ -1,6 +1,5 @@
 //! The places of the nodes by their ids.
 ghost use Rattle.std.specs.Prelude.{◌≡◌, ◌≤◌, length};
-ghost use Rattle.pgsolver.specs.Held.{entries_of};
 ghost use Rattle.pgsolver.specs.Wrongs.{Indexed};
 
 use crate::text::Node;
@@ -14,7 +13,7 @@ pub(crate) type Places = BTreeMap<u32, u32>;
 /// The places of all nodes.
 pub(crate) fn index(heap: Global, nodes: &[Node]) -> Result<Places, Wrong>
     requires { length nodes.now ≤ 16384 }
-    ensures { Indexed (entries_of nodes.now) result }
+    ensures { Indexed nodes.now result }
 {
     let mut places = BTreeMap::new(heap);
     for (n, node) in nodes.iter().enumerate() {

@@ -3,8 +3,7 @@
 
 ghost use Rattle.std.specs.Prelude.{◌≡◌, ◌≤◌, length, IfOk, IfErr, Ok};
 ghost use Rattle.pgsolver.specs.Form.{priorities_in, entries};
-ghost use Rattle.pgsolver.specs.Held.{entries_of};
-ghost use Rattle.pgsolver.specs.Listed.{Assembled, Unassembled, Inside, Listed, listed_names, Says};
+ghost use Rattle.pgsolver.specs.Listed.{line_at, Assembled, Unassembled, Inside, Listed, listed_names, Says};
 ghost use Rattle.pgsolver.specs.Read.{Stops};
 ghost use Rattle.pgsolver.specs.Weights.{Fitted, Unfit};
 ghost use Rattle.pgsolver.specs.Wrongs.{FineAll};
@@ -43,8 +42,8 @@ pub struct Listing {
 
 /// The weights of the nodes.
 fn weigh(heap: Global, nodes: &[Node]) -> Result<Vec<u32>, NoWeights>
-    ensures fitted { IfOk result (λ v. Fitted (priorities_in (entries_of nodes.now)) v.items) }
-    ensures unfit { IfErr result (λ e. Unfit (priorities_in (entries_of nodes.now)) e) }
+    ensures fitted { IfOk result (λ v. Fitted (priorities_in nodes.now) v.items) }
+    ensures unfit { IfErr result (λ e. Unfit (priorities_in nodes.now) e) }
 {
     let priorities: Vec<u32> = nodes.iter().map(|node| node.head.priority).collect(heap)?;
     compress(heap, &priorities)
@@ -52,31 +51,41 @@ fn weigh(heap: Global, nodes: &[Node]) -> Result<Vec<u32>, NoWeights>
 
 /// The words of the nodes.
 fn assemble(heap: Global, nodes: &[Node]) -> Result<Vec<u32>, Wrong>
-    requires fine { FineAll (entries_of nodes.now) }
+    requires fine { FineAll nodes.now }
     requires few { length nodes.now ≤ 16384 }
-    ensures { Assembled (entries_of nodes.now) result }
+    ensures { Assembled nodes.now result }
 {
     let places = ids::index(heap, nodes)?;
     let weights = weigh(heap, nodes)?;
     words::write_words(heap, &places, nodes, &weights)
 }
 
+/// The line in which the node begins.
+fn line_of(text: &[u8], node: &Node) -> usize
+    ensures { result ≡ line_at text.now node.now.left }
+{
+    line::line_at(text, node.left)
+}
+
 /// What is said of a text whose nodes are wrong.
 fn refused(text: &[u8], nodes: &[Node], wrong: Wrong) -> Refusal
-    requires { Inside (entries_of nodes.now) wrong }
-    ensures { entries text.now ≡ Ok (entries_of nodes.now) → Unassembled (entries_of nodes.now) wrong → Says text.now result }
+    requires { Inside nodes.now wrong }
+    ensures { entries text.now ≡ Ok nodes.now → Unassembled nodes.now wrong → Says text.now result }
 {
     match wrong {
-        Wrong::Twice(n) => Refusal::Twice {
-            line: line::line_at(text, nodes[n].left),
-            id: nodes[n].head.id,
-        },
+        Wrong::Twice(n) => {
+            let node = &nodes[n];
+            Refusal::Twice {
+                line: line_of(text, node),
+                id: node.head.id,
+            }
+        }
         Wrong::Unknown(n, id) => Refusal::Unknown {
-            line: line::line_at(text, nodes[n].left),
+            line: line_of(text, &nodes[n]),
             id,
         },
         Wrong::Priority(n) => Refusal::TooManyPriorities {
-            line: line::line_at(text, nodes[n].left),
+            line: line_of(text, &nodes[n]),
         },
         Wrong::Memory => Refusal::Memory,
     }

@@ -2,7 +2,6 @@
 ghost use Rattle.std.specs.Prelude.{◌≡◌, ℕ, ◌≤◌, List, [], ◌∷◌, ◌++◌, length};
 ghost use Rattle.endless.specs.Sides.{number};
 ghost use Rattle.pgsolver.specs.Form.{ids_in};
-ghost use Rattle.pgsolver.specs.Held.{entries_of};
 ghost use Rattle.pgsolver.specs.Table.{Locates};
 ghost use Rattle.pgsolver.specs.Wrongs.{Went, Ready, Worded};
 
@@ -32,8 +31,8 @@ fn write_place(
     n: usize,
     words: &mut Vec<u32>,
 ) -> Result<(), Wrong>
-    requires { length node.now.goals.items ≤ 64000 }
-    ensures { (ids : List ℕ) → Locates places.now ids → Went ids node.now.goals.items n (words.old.items ++ (number node.now.head.owner ∷ weight ∷ length node.now.goals.items ∷ [])) words.new.items result }
+    requires { length node.now.goes ≤ 64000 }
+    ensures { (ids : List ℕ) → Locates places.now ids → Went ids node.now.goes n (words.old.items ++ (number node.now.first.owner ∷ weight ∷ length node.now.goes ∷ [])) words.new.items result }
 {
     words.push(u32::from(node.head.owner))?;
     words.push(weight)?;
@@ -48,9 +47,9 @@ pub(crate) fn write_words(
     nodes: &[Node],
     weights: &[u32],
 ) -> Result<Vec<u32>, Wrong>
-    requires located { Locates places.now (ids_in (entries_of nodes.now)) }
-    requires ready { Ready weights.now (entries_of nodes.now) }
-    ensures { Worded (ids_in (entries_of nodes.now)) (entries_of nodes.now) weights.now result }
+    requires located { Locates places.now (ids_in nodes.now) }
+    requires ready { Ready weights.now nodes.now }
+    ensures { Worded (ids_in nodes.now) nodes.now weights.now result }
 {
     let mut words = Vec::new(heap);
     words.push(nodes.len() as u32)?;
