@@ -1,5 +1,5 @@
 -- What is read, looked up, weighed and written is the game that the text lists.
-use Rattle.std.proofs.Common.{◌≡◌, ℕ, suc, ◌<◌, ◌≤◌, true, ◌&&◌, T, leb, false, List, [], ◌∷◌, map, length, get_or, Ok, Err, Result, sym, refl, ap, ◌∙◌, subst, arith}
+use Rattle.std.proofs.Common.{vec_items, ◌≡◌, ℕ, suc, ◌<◌, ◌≤◌, true, ◌&&◌, T, leb, false, List, [], ◌∷◌, map, length, get_or, Ok, Err, Result, sym, refl, ap, ◌∙◌, subst, arith}
 use Rattle.std.specs.Prelude.{Vec}
 use Rattle.std.specs.Result.{MatchResult, is_ok}
 use Rattle.std.specs.declared.alloc.Global.{Global}
@@ -14,7 +14,7 @@ use Rattle.pgsolver.specs.Form.{Entry, ids_in, priorities_in, entries}
 use Rattle.pgsolver.specs.Listed.{Assembles, Assembled, Unassembled, Inside, Listed}
 use Rattle.pgsolver.specs.Table.{Apart}
 use Rattle.pgsolver.specs.Weights.{Fitted, Unfit, weights_of}
-use Rattle.pgsolver.specs.Wrongs.{Indexed, unweighed, FineAll, Ready, Places, Worded}
+use Rattle.pgsolver.specs.Wrongs.{Missing, Indexed, unweighed, FineAll, Ready, Places, Played, Worded}
 use Rattle.pgsolver.proofs.Lengths.{ok_is}
 use Rattle.pgsolver.proofs.SameWins.{alike_many, same_wins}
 
@@ -27,11 +27,11 @@ index_wrong es (Unknown n x) h = absurd h
 index_wrong es (Priority n) h = absurd h
 index_wrong es Memory h = tt
 
-pub worded_wrong : (es : List Entry) (ws : List ℕ) (x : Wrong) → Worded (ids_in es) es ws (Err x) → Unassembled es x
-worded_wrong es ws (Twice n) h = absurd h
-worded_wrong es ws (Unknown n x) h = h
-worded_wrong es ws (Priority n) h = absurd h
-worded_wrong es ws Memory h = tt
+pub worded_wrong : (es : List Entry) (ids ws : List ℕ) (x : Wrong) → ids ≡ ids_in es → Worded ids es ws (Err x) → Unassembled es x
+worded_wrong es ids ws (Twice n) e h = absurd h
+worded_wrong es ids ws (Unknown n x) e h = (h.0, h.1, subst (λ l. Missing l x) e h.2)
+worded_wrong es ids ws (Priority n) e h = absurd h
+worded_wrong es ids ws Memory e h = tt
 
 pub unfit_wrong : (es : List Entry) (x : NoWeights) → Unfit (priorities_in es) x → Unassembled es (unweighed x)
 unfit_wrong es (weights.TooMany n) h = h
@@ -42,9 +42,9 @@ pub kept : {A E F : Type 0} (s : Result A E) (r : Result A F) (v : A) (Q : E →
 kept (Ok y) r v Q k l e = ap Ok (ok_is (sym k ∙ e))
 kept (Err t) r v Q k l e = absurd (let z : true ≡ false = sym (ap is_ok e) ∙ l in cc)
 
-pub assembled : (es : List Entry) (ws : List ℕ) → Apart (ids_in es) → Fitted (priorities_in es) ws → (r : Result (Vec ℕ Global) Wrong) → Worded (ids_in es) es ws r → Assembled es r
-assembled es ws a f (Ok v) h = record { ws = ws; different = a; fitted = f; played = h }
-assembled es ws a f (Err x) h = worded_wrong es ws x h
+pub assembled : (es : List Entry) (ids ws : List ℕ) → ids ≡ ids_in es → Apart ids → Fitted (priorities_in es) ws → (r : Result (Vec ℕ Global) Wrong) → Worded ids es ws r → Assembled es r
+assembled es ids ws e a f (Ok v) h = record { ws = ws; different = subst Apart e a; fitted = f; played = subst (λ l. Played l es ws (length es ∷ []) (vec_items v)) e h }
+assembled es ids ws e a f (Err x) h = worded_wrong es ids ws x e h
 
 pub inside : (es : List Entry) (x : Wrong) → Unassembled es x → Inside es x
 inside es (Twice n) u = omega (arith, u.0, length-map es (λ e. e.first.id))

@@ -8,6 +8,7 @@ ghost use Rattle.pgsolver.specs.Read.{Stops};
 ghost use Rattle.pgsolver.specs.Weights.{Fitted, Unfit};
 ghost use Rattle.pgsolver.specs.Wrongs.{FineAll};
 
+use crate::ids::Places;
 use crate::refusal::{Slip, Stop};
 use crate::text::Node;
 use crate::weights::NoWeights;
@@ -55,7 +56,7 @@ fn assemble(heap: Global, nodes: &[Node]) -> Result<Vec<u32>, Wrong>
     requires few { length nodes.now ≤ 16384 }
     ensures { Assembled nodes.now result }
 {
-    let places = ids::index(heap, nodes)?;
+    let places = Places::of(heap, nodes)?;
     let weights = weigh(heap, nodes)?;
     words::write_words(heap, &places, nodes, &weights)
 }

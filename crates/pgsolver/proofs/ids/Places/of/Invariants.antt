@@ -1,6 +1,6 @@
 use Rattle.pgsolver.specs.Form.{ids_in}
 use Rattle.pgsolver.proofs.Writes.{IndexedTo}
-use Rattle.pgsolver.proofs.ids.index.Given as goal
+use Rattle.pgsolver.proofs.ids.Places.of.Given as goal
 
 abbrev pub invariant-loop-n : goal.invariant-loop-n
-invariant-loop-n l = IndexedTo (ids_in l.nodes) l.places l.n
+invariant-loop-n l = IndexedTo (ids_in l.nodes) l.ids.keys l.n
