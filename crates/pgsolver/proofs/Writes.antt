@@ -16,7 +16,7 @@ use Rattle.pgsolver.specs.Form.{Entry}
 use Rattle.pgsolver.specs.declared.wrong.Wrong.{Wrong}
 use Rattle.pgsolver.specs.declared.wrong.Wrong.TheVariants.{Twice, Unknown, Priority, Memory}
 use Rattle.pgsolver.specs.Weights.{weights_of}
-use Rattle.pgsolver.specs.Table.{Apart, Finds}
+use Rattle.pgsolver.specs.Table.{Finds}
 use Rattle.pgsolver.specs.Wrongs.{Again, SomeOf, Gone, Went, Fine, FineAll, Ready, Played, Worded}
 
 pub gone_none : (ids acc : List ℕ) → Gone ids [] acc acc
@@ -103,11 +103,6 @@ module _ (ids keys : List ℕ) (n x : ℕ) (s : IndexedTo ids keys n) (l : n < l
         none_at x keys h i (omega (arith, low, many)) (key_is i low ∙ same ∙ ap (λ m. get_or ids m 0) last ∙ is))
         (cases_lt j n);
   }
-
-pub indexed_all : (ids keys : List ℕ) (n : ℕ) → IndexedTo ids keys n → length ids ≤ n → (keys ≡ ids) × Apart keys
-indexed_all ids keys n s end =
-    let all : keys ≡ ids = s.are ∙ take_all n ids end in
-    (all, subst Apart (sym all) (λ i j l k. s.apart i j l (omega (arith, k, end))))
 
 pub three_more : (old one two three : List ℕ) (s w m : ℕ) → one ≡ old ++ (s ∷ []) → two ≡ one ++ (w ∷ []) → three ≡ two ++ (m ∷ []) → three ≡ old ++ (s ∷ w ∷ m ∷ [])
 three_more old one two three s w m a b c =

@@ -3,7 +3,7 @@
 
 ghost use Rattle.std.specs.Prelude.{◌≡◌, ◌≤◌, length, IfOk, IfErr, Ok};
 ghost use Rattle.pgsolver.specs.Form.{priorities_in, entries};
-ghost use Rattle.pgsolver.specs.Listed.{line_at, Assembled, Unassembled, Inside, Listed, listed_names, Says};
+ghost use Rattle.pgsolver.specs.Listed.{line_at, Assembled, Unassembled, Inside, Listed, listed_ids, listed_names, Says};
 ghost use Rattle.pgsolver.specs.Read.{Stops};
 ghost use Rattle.pgsolver.specs.Weights.{Fitted, Unfit};
 ghost use Rattle.pgsolver.specs.Wrongs.{FineAll};
@@ -33,12 +33,20 @@ pub use weights::compress;
 /// The most bytes of a text.
 pub const MOST_BYTES: usize = 1_048_576;
 
-/// A game as words, and the ids and names of its places in their order; a name that is missing is empty.
+/// What a node calls its place.
+#[derive(Drop)]
+pub struct Named {
+    pub id: u32,
+    // (d) no `Option`: the form's definition (`name` in specs/Form.antt) reads a missing name as the empty one.
+    /// Empty where the node has none.
+    pub name: Vec<u8>,
+}
+
+/// A game as words, and what its places are called, in their order.
 #[derive(Drop)]
 pub struct Listing {
     pub words: Vec<u32>,
-    pub ids: Vec<u32>,
-    pub names: Vec<Vec<u8>>,
+    pub places: Vec<Named>,
 }
 
 /// The weights of the nodes.
@@ -107,7 +115,7 @@ fn stopped(text: &[u8], stop: Stop) -> Refusal
 
 /// Reads PGSolver's form: ID PRIORITY OWNER SUCC,SUCC,.. "NAME"; for each node, behind `parity N;` and `start N;`, which may be missing.
 pub fn read(heap: Global, text: &[u8]) -> Result<Listing, Refusal>
-    ensures listed { IfOk result (λ l. Listed text.now l.ids.items (listed_names l) l.words.items) }
+    ensures listed { IfOk result (λ l. Listed text.now (listed_ids l) (listed_names l) l.words.items) }
     ensures says { IfErr result (λ e. Says text.now e) }
 {
     if text.len() > MOST_BYTES {
@@ -118,7 +126,12 @@ pub fn read(heap: Global, text: &[u8]) -> Result<Listing, Refusal>
         return Err(Refusal::NoNodes);
     }
     let words = assemble(heap, &nodes).map_err(|wrong| refused(text, &nodes, wrong))?;
-    let ids = nodes.iter().map(|node| node.head.id).collect(heap)?;
-    let names = nodes.into_iter().map(|node| node.name).collect(heap)?;
-    Ok(Listing { words, ids, names })
+    let places = nodes
+        .into_iter()
+        .map(|node| Named {
+            id: node.head.id,
+            name: node.name,
+        })
+        .collect(heap)?;
+    Ok(Listing { words, places })
 }
