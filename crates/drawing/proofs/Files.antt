@@ -35,5 +35,5 @@ module _ (o : Option (List ℕ)) (items : List ℕ) (k : IfSome o (λ bytes. ite
   pub tells_no_text : (IsUtf8 items → ⊥) → IfSome o (λ bytes. Tells (take 1572865 bytes) NotText)
   tells_no_text wrong = IfSome_then o {P = λ bytes. items ≡ take 1572865 bytes} {Q = λ bytes. Tells (take 1572865 bytes) NotText} k (λ bytes e u. wrong (subst IsUtf8 (sym e) u))
 
-  pub tells_refused : (r : Refusal) (line : String Global) → Says items r → IfSome o (λ bytes. Tells (take 1572865 bytes) (Refused r line))
+  pub tells_refused : (r : Refusal) (line : Option (String Global)) → Says items r → IfSome o (λ bytes. Tells (take 1572865 bytes) (Refused r line))
   tells_refused r line h = IfSome_then o {P = λ bytes. items ≡ take 1572865 bytes} {Q = λ bytes. Says (take 1572865 bytes) r} k (λ bytes e. subst (λ l. Says l r) e h)

@@ -9,6 +9,7 @@ use crate::shown::shown_line;
 use crate::{Drawing, MOST_BYTES, read};
 use std::alloc::{AllocError, Global};
 use std::error::Error;
+use std::fs::File;
 use std::io::Read;
 use std::{fmt, io};
 
@@ -19,8 +20,11 @@ pub enum Unread {
     Io(io::Error),
     /// They are not UTF-8.
     NotText,
-    /// They are no drawing of a game. `line` is the refused line as it is shown, or empty where the refusal is about none.
-    Refused { refusal: Refusal, line: String },
+    /// They are no drawing of a game. `line` is the refused line as it is shown, if the refusal is about one.
+    Refused {
+        refusal: Refusal,
+        line: Option<String>,
+    },
     Memory,
 }
 
@@ -53,10 +57,10 @@ impl fmt::Display for Unread {
             Unread::NotText => f.write_str("not UTF-8"),
             Unread::Refused { refusal, line } => {
                 write!(f, "{refusal}")?;
-                if line.is_empty() {
-                    return Ok(());
+                match line {
+                    Some(line) => write!(f, "\n  {line}"),
+                    None => Ok(()),
                 }
-                write!(f, "\n  {line}")
             }
             Unread::Memory => f.write_str("out of memory"),
         }
@@ -65,11 +69,11 @@ impl fmt::Display for Unread {
 
 impl Error for Unread {}
 
-/// The line that the refusal is about, as it is shown under it; empty where it is about none.
-fn refused_line(heap: Global, text: &str, refusal: &Refusal) -> Result<String, AllocError> {
+/// The line that the refusal is about, as it is shown under it.
+fn refused_line(heap: Global, text: &str, refusal: &Refusal) -> Result<Option<String>, AllocError> {
     match refusal.line() {
-        Some(number) => shown_line(heap, text, number),
-        None => Ok(String::new(heap)),
+        Some(number) => Ok(Some(shown_line(heap, text, number)?)),
+        None => Ok(None),
     }
 }
 
@@ -93,4 +97,12 @@ pub fn read_from<R: Read + Drop>(heap: Global, reader: R) -> Result<Drawing, Unr
             Err(Unread::Refused { refusal, line })
         }
     }
+}
+
+/// Reads the drawing that stands in the file of this path.
+pub fn read_path(rt: &HostRuntime, path: &str) -> Result<Drawing, Unread>
+    // What is read is the drawing of a game.
+    ensures { IfOk result (λ d. (text : List ℕ) × Drawn text (drawn_names d) (drawn_words d)) }
+{
+    read_from(rt.alloc(), File::open(rt, path)?)
 }

@@ -20,7 +20,7 @@ mod spell;
 mod token;
 mod write;
 
-pub use file::{Unread, read_from};
+pub use file::{Unread, read_from, read_path};
 pub use names::MOST_PLACES;
 pub use refusal::{Fault, Refusal};
 pub use spell::{Name, Quoted, written};

@@ -57,11 +57,11 @@ pub(crate) fn has_control(bytes: &[u8]) -> bool
     false
 }
 
-/// Whether the byte is a backslash that takes the next byte with it.
-fn is_escape(escaped: bool, b: u8) -> bool
-    ensures { result ≡ escapes escaped b }
+/// Whether the character is a backslash that takes the next one with it.
+pub(crate) fn is_escape(escaped: bool, c: char) -> bool
+    ensures { result ≡ escapes escaped c }
 {
-    !escaped && b == b'\\'
+    !escaped && c == '\\'
 }
 
 /// Whether a backslash may not take the byte.
@@ -90,7 +90,7 @@ pub(crate) fn closing_quote(bytes: &[u8]) -> Option<usize>
         if is_closing(escaped, *b) {
             return Some(n);
         }
-        escaped = is_escape(escaped, *b);
+        escaped = is_escape(escaped, char::from(*b));
     }
     None
 }
@@ -103,7 +103,7 @@ pub(crate) fn plain_len(bytes: &[u8]) -> usize
     let mut escaped = false;
     let mut n = 0;
     for b in bytes {
-        escaped = is_escape(escaped, *b);
+        escaped = is_escape(escaped, char::from(*b));
         if !escaped {
             n += 1;
         }

@@ -1,7 +1,7 @@
 //! Names and how they are written.
 ghost use Rattle.std.specs.Prelude.{◌≡◌, false, Some, IfOk, string_bytes};
 ghost use Rattle.std.specs.Fmt.{WritesOnOk};
-ghost use Rattle.drawing.specs.Form.{escapes, plain};
+ghost use Rattle.drawing.specs.Form.{plain};
 ghost use Rattle.drawing.specs.Lexed.{meant};
 ghost use Rattle.drawing.specs.Spelling.{special, marked, plainly, in_quotes, spelling, IsName, Means};
 
@@ -11,13 +11,6 @@ use std::alloc::{AllocError, Global};
 use std::fmt;
 use std::fmt::Write;
 
-/// Whether the character is a backslash that takes the next one with it.
-fn is_escape(escaped: bool, c: char) -> bool
-    ensures { result ≡ escapes escaped c }
-{
-    !escaped && c == '\\'
-}
-
 /// The text without the backslashes that take another character.
 fn unescaped(heap: Global, raw: &str) -> Result<String, AllocError>
     ensures { IfOk result (λ s. string_bytes s ≡ plain false raw.now) }
@@ -25,7 +18,7 @@ fn unescaped(heap: Global, raw: &str) -> Result<String, AllocError>
     let mut name = String::new(heap);
     let mut escaped = false;
     for c in raw.chars() {
-        escaped = is_escape(escaped, c);
+        escaped = scan::is_escape(escaped, c);
         if !escaped {
             name.push(c)?;
         }

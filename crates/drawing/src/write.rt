@@ -27,13 +27,10 @@ impl<'a> Line<'a> {
         ensures { Found self.entry.number self.entry.names.now (meant word.entry) result }
     {
         let name = word.to_name(self.heap)?;
-        match self.names.find(name.as_str()) {
-            Some(place) => Ok(place),
-            None => Err(Refusal::Unknown {
-                line: self.number,
-                name,
-            }),
-        }
+        self.names.find(name.as_str()).ok_or(Refusal::Unknown {
+            line: self.number,
+            name,
+        })
     }
 
     /// Adds the places that the rest of the line names.

@@ -1,9 +1,8 @@
 //! What is read: a drawing from a file, and the person's lines.
 use crate::fault::Fault;
 use crate::wish::NoWish;
-use drawing::{Drawing, Unread, read_from};
+use drawing::{Drawing, Unread, read_path};
 use std::alloc::{AllocError, Global};
-use std::fs::File;
 use std::io;
 use std::io::{BufRead, Read};
 
@@ -13,7 +12,7 @@ const MOST_LINE: usize = 256;
 /// The drawing that stands in `file`.
 pub(crate) fn drawing(rt: &HostRuntime, file: &str) -> Result<Drawing, Fault> {
     let heap = rt.alloc();
-    match read_file(rt, heap, file) {
+    match read_path(rt, file) {
         Ok(drawing) => Ok(drawing),
         Err(Unread::Memory) => Err(Fault::Memory),
         Err(why) => Err(Fault::Unread {
@@ -21,10 +20,6 @@ pub(crate) fn drawing(rt: &HostRuntime, file: &str) -> Result<Drawing, Fault> {
             why,
         }),
     }
-}
-
-fn read_file(rt: &HostRuntime, heap: Global, file: &str) -> Result<Drawing, Unread> {
-    read_from(heap, File::open(rt, file)?)
 }
 
 /// The next line, without its end, or why it is none; `None` where the input

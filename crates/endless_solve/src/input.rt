@@ -1,14 +1,12 @@
 //! Drawings from files and from standard input.
 use crate::fault::Fault;
-use drawing::{Drawing, Unread, read_from};
-use std::alloc::{AllocError, Global};
-use std::fs::File;
-use std::io;
+use drawing::{Drawing, Unread, read_from, read_path};
+use std::alloc::AllocError;
 
 /// The drawing that stands in `file`, or on standard input where that is `-`.
 pub(crate) fn drawing(rt: &HostRuntime, file: &str) -> Result<Drawing, Fault> {
     let heap = rt.alloc();
-    match read_file(rt, heap, file) {
+    match read(rt, file) {
         Ok(drawing) => Ok(drawing),
         Err(Unread::Memory) => Err(Fault::Memory),
         Err(why) => Err(Fault::Unread {
@@ -23,10 +21,10 @@ pub(crate) fn shown(file: &str) -> &str {
     if file == "-" { "standard input" } else { file }
 }
 
-fn read_file(rt: &HostRuntime, heap: Global, file: &str) -> Result<Drawing, Unread> {
+fn read(rt: &HostRuntime, file: &str) -> Result<Drawing, Unread> {
     if file == "-" {
-        read_from(heap, rt.stdin())
+        read_from(rt.alloc(), rt.stdin())
     } else {
-        read_from(heap, File::open(rt, file)?)
+        read_path(rt, file)
     }
 }

@@ -1,23 +1,20 @@
 -- What is read, looked up, weighed and written is the game that the text lists.
-use Rattle.std.proofs.Common.{◌≡◌, ℕ, suc, ◌<◌, ◌≤◌, true, ◌&&◌, T, leb, false, List, [], ◌∷◌, map, length, get_or, Ok, Err, Result, vec_items, sym, refl, ap, ◌∙◌, subst, arith}
+use Rattle.std.proofs.Common.{vec_items, ◌≡◌, ℕ, suc, ◌<◌, ◌≤◌, true, ◌&&◌, T, leb, false, List, [], ◌∷◌, map, length, get_or, Ok, Err, Result, sym, refl, ap, ◌∙◌, subst, arith}
 use Rattle.std.specs.Prelude.{Vec}
 use Rattle.std.specs.Result.{MatchResult, is_ok}
 use Rattle.std.specs.declared.alloc.Global.{Global}
 use Rattle.std.proofs.lemmas.List.{length-map, get_or-map}
-use Rattle.std.proofs.lemmas.Simd.{map-map}
 use Rattle.std.proofs.lemmas.Bool.{le-leb, and_from}
 use Rattle.endless.specs.Games.{Game, ok_ps, row as words}
-use Rattle.pgsolver.specs.declared.text.Node.{Node}
 use Rattle.pgsolver.specs.declared.weights.NoWeights.{NoWeights}
 use Rattle.pgsolver.specs.declared.weights.NoWeights.TheVariants as weights
 use Rattle.pgsolver.specs.declared.wrong.Wrong.{Wrong}
 use Rattle.pgsolver.specs.declared.wrong.Wrong.TheVariants.{Twice, Unknown, Priority, Memory}
 use Rattle.pgsolver.specs.Form.{Entry, ids_in, priorities_in, entries}
-use Rattle.pgsolver.specs.Held.{entry_of, entries_of}
 use Rattle.pgsolver.specs.Listed.{Assembles, Assembled, Unassembled, Inside, Listed}
 use Rattle.pgsolver.specs.Table.{Apart}
 use Rattle.pgsolver.specs.Weights.{Fitted, Unfit, weights_of}
-use Rattle.pgsolver.specs.Wrongs.{Indexed, unweighed, FineAll, Ready, Places, Worded}
+use Rattle.pgsolver.specs.Wrongs.{Missing, Indexed, unweighed, FineAll, Ready, Places, Played, Worded}
 use Rattle.pgsolver.proofs.Lengths.{ok_is}
 use Rattle.pgsolver.proofs.SameWins.{alike_many, same_wins}
 
@@ -30,33 +27,24 @@ index_wrong es (Unknown n x) h = absurd h
 index_wrong es (Priority n) h = absurd h
 index_wrong es Memory h = tt
 
-pub worded_wrong : (es : List Entry) (ws : List ℕ) (x : Wrong) → Worded (ids_in es) es ws (Err x) → Unassembled es x
-worded_wrong es ws (Twice n) h = absurd h
-worded_wrong es ws (Unknown n x) h = h
-worded_wrong es ws (Priority n) h = absurd h
-worded_wrong es ws Memory h = tt
+pub worded_wrong : (es : List Entry) (ids ws : List ℕ) (x : Wrong) → ids ≡ ids_in es → Worded ids es ws (Err x) → Unassembled es x
+worded_wrong es ids ws (Twice n) e h = absurd h
+worded_wrong es ids ws (Unknown n x) e h = (h.0, h.1, subst (λ l. Missing l x) e h.2)
+worded_wrong es ids ws (Priority n) e h = absurd h
+worded_wrong es ids ws Memory e h = tt
 
 pub unfit_wrong : (es : List Entry) (x : NoWeights) → Unfit (priorities_in es) x → Unassembled es (unweighed x)
 unfit_wrong es (weights.TooMany n) h = h
 unfit_wrong es weights.Memory h = tt
-
-pub priorities_same : (nodes : List Node) → map (λ n. n.head.priority) nodes ≡ priorities_in (entries_of nodes)
-priorities_same nodes = sym (map-map (λ e. e.first.priority) entry_of nodes)
-
-pub ids_same : (nodes : List Node) → map (λ n. n.head.id) nodes ≡ ids_in (entries_of nodes)
-ids_same nodes = sym (map-map (λ e. e.first.id) entry_of nodes)
-
-pub names_same : (nodes : List Node) → map vec_items (map (λ n. n.name) nodes) ≡ map (λ e. e.named) (entries_of nodes)
-names_same nodes = map-map vec_items (λ n. n.name) nodes ∙ sym (map-map (λ e. e.named) entry_of nodes)
 
 -- what is there after `map_err` was there before
 pub kept : {A E F : Type 0} (s : Result A E) (r : Result A F) (v : A) (Q : E → Type 0) → MatchResult s (λ y. r ≡ Ok y) Q → is_ok r ≡ is_ok s → r ≡ Ok v → s ≡ Ok v
 kept (Ok y) r v Q k l e = ap Ok (ok_is (sym k ∙ e))
 kept (Err t) r v Q k l e = absurd (let z : true ≡ false = sym (ap is_ok e) ∙ l in cc)
 
-pub assembled : (es : List Entry) (ws : List ℕ) → Apart (ids_in es) → Fitted (priorities_in es) ws → (r : Result (Vec ℕ Global) Wrong) → Worded (ids_in es) es ws r → Assembled es r
-assembled es ws a f (Ok v) h = record { ws = ws; different = a; fitted = f; played = h }
-assembled es ws a f (Err x) h = worded_wrong es ws x h
+pub assembled : (es : List Entry) (ids ws : List ℕ) → ids ≡ ids_in es → Apart ids → Fitted (priorities_in es) ws → (r : Result (Vec ℕ Global) Wrong) → Worded ids es ws r → Assembled es r
+assembled es ids ws e a f (Ok v) h = record { ws = ws; different = subst Apart e a; fitted = f; played = subst (λ l. Played l es ws (length es ∷ []) (vec_items v)) e h }
+assembled es ids ws e a f (Err x) h = worded_wrong es ids ws x e h
 
 pub inside : (es : List Entry) (x : Wrong) → Unassembled es x → Inside es x
 inside es (Twice n) u = omega (arith, u.0, length-map es (λ e. e.first.id))
@@ -65,11 +53,11 @@ inside es (Priority n) u = omega (arith, u.0, length-map es (λ e. e.first.prior
 inside es Memory u = tt
 
 -- where a node begins, and its id
-pub left_is : (nodes : List Node) (n : ℕ) (d : Node) → n < length nodes → (get_or nodes n d).left ≡ get_or (map (λ e. e.left) (entries_of nodes)) n 0
-left_is nodes n d l = sym (get_or-map (λ e. e.left) (entries_of nodes) n (entry_of d) 0 (omega (arith, l, length-map nodes entry_of)) ∙ ap (λ e. e.left) (get_or-map entry_of nodes n d (entry_of d) l))
+pub left_is : (es : List Entry) (n : ℕ) (d : Entry) → n < length es → (get_or es n d).left ≡ get_or (map (λ e. e.left) es) n 0
+left_is es n d l = sym (get_or-map (λ e. e.left) es n d 0 l)
 
-pub id_is : (nodes : List Node) (n : ℕ) (d : Node) → n < length nodes → (get_or nodes n d).head.id ≡ get_or (ids_in (entries_of nodes)) n 0
-id_is nodes n d l = sym (get_or-map (λ e. e.first.id) (entries_of nodes) n (entry_of d) 0 (omega (arith, l, length-map nodes entry_of)) ∙ ap (λ e. e.first.id) (get_or-map entry_of nodes n d (entry_of d) l))
+pub id_is : (es : List Entry) (n : ℕ) (d : Entry) → n < length es → (get_or es n d).first.id ≡ get_or (ids_in es) n 0
+id_is es n d l = sym (get_or-map (λ e. e.first.id) es n d 0 l)
 
 places_many : (ids : List ℕ) (es : List Entry) (g : Game) → Places ids es g → length es ≡ length g
 places_many ids [] [] h = refl

@@ -1,14 +1,13 @@
 -- Ids are looked up, and the words of the places are written.
-use Rattle.std.proofs.Common.{◌≡◌, ℕ, zero, suc, ◌+◌, ◌<◌, ◌≤◌, Bool, true, false, ◌&&◌, ltb, List, [], ◌∷◌, ◌++◌, map, length, get_or, take, drop, Some, None, Option, Err, sym, refl, ap, ◌∙◌, subst, ⊎_elim, append_assoc, append-nil, arith}
-use Rattle.std.specs.BTreeMap.{BTreeMap, get, Updates}
-use Rattle.std.specs.Option.{is_some}
-use Rattle.std.specs.Ordering.{nat_cmp}
+use Rattle.std.proofs.Common.{length-take-le, get_or-take, ◌≡◌, ℕ, zero, suc, ◌+◌, ◌<◌, ◌≤◌, Bool, true, false, not, cond, eqb, ◌&&◌, ◌||◌, ltb, List, [], ◌∷◌, ◌++◌, map, length, get_or, take, drop, Some, None, Err, sym, refl, ap, ◌∙◌, subst, ⊎_elim, append_assoc, append-nil, arith}
 use Rattle.std.proofs.lemmas.List.{length-map, take_more, take_all, get_or-map, map_push, drop_more, drop_all, get_or_read}
-use Rattle.std.specs.List.{zip, enumerate_from}
+use Rattle.std.specs.List.{zip, enumerate_from, list_any, position, position_or_len}
+use Rattle.std.proofs.lemmas.List.Folds.{list_any_at}
+use Rattle.std.proofs.lemmas.List.Sums.{fails_before_first, passes_at_first}
+use Rattle.indexmap.specs.IndexSet.{insert_key}
 use Rattle.std.proofs.lemmas.List.FromFn.{length-enumerate_from, get_or-enumerate_from}
 use Rattle.std.proofs.lemmas.Slice.Zip.{length-zip, get_or-zip}
-use Rattle.pgsolver.specs.declared.text.Node.{Node}
-use Rattle.std.proofs.lemmas.Bool.{cases_lt, lt-ltb, and_from}
+use Rattle.std.proofs.lemmas.Bool.{cases_lt, lt-ltb, and_from, cond-false, eq-eqb, eqb-true, eqb-false, ltb-true, ltb-false}
 use Rattle.endless.specs.Games.{Place, below, some_of, row as words}
 use Rattle.endless.specs.Sides.{number}
 use Rattle.endless.specs.declared.side.Side.{Side}
@@ -17,7 +16,7 @@ use Rattle.pgsolver.specs.Form.{Entry}
 use Rattle.pgsolver.specs.declared.wrong.Wrong.{Wrong}
 use Rattle.pgsolver.specs.declared.wrong.Wrong.TheVariants.{Twice, Unknown, Priority, Memory}
 use Rattle.pgsolver.specs.Weights.{weights_of}
-use Rattle.pgsolver.proofs.Looking.{FoundIn, found_none, found_more}
+use Rattle.pgsolver.specs.Table.{Finds}
 use Rattle.pgsolver.specs.Wrongs.{Again, SomeOf, Gone, Went, Fine, FineAll, Ready, Played, Worded}
 
 pub gone_none : (ids acc : List ℕ) → Gone ids [] acc acc
@@ -42,32 +41,66 @@ gone_more ids goes acc new k i g l within e longer more = record {
 pub gone_all : (ids goes acc new : List ℕ) (k : ℕ) → Gone ids (take k goes) acc new → length goes ≤ k → Gone ids goes acc new
 gone_all ids goes acc new k g l = subst (λ x. Gone ids x acc new) (take_all k goes l) g
 
--- the map has the first n ids, which all differ
-pub record IndexedTo (ids : List ℕ) (m : BTreeMap ℕ ℕ) (n : ℕ) : Type 0 where
-  pub located : (x : ℕ) → FoundIn ids n x (get nat_cmp m x)
+pub not_false : (b : Bool) → not b ≡ false → b ≡ true
+not_false true e = refl
+not_false false e = sym e
+
+pub not_true : (b : Bool) → not b ≡ true → b ≡ false
+not_true true e = sym e
+not_true false e = refl
+
+-- the id is among the keys
+any_at : (x : ℕ) (ks : List ℕ) → list_any (eqb x) ks ≡ true → (i : ℕ) × (i < length ks) × (get_or ks i 0 ≡ x)
+any_at x [] e = absurd (let z : false ≡ true = e in cc)
+any_at x (k ∷ ks) e = at (λ h. any_at x ks h) (eqb x k) refl e
+  where
+    at : (list_any (eqb x) ks ≡ true → (i : ℕ) × (i < length ks) × (get_or ks i 0 ≡ x)) → (t : Bool) → eqb x k ≡ t → (t || list_any (eqb x) ks) ≡ true → (i : ℕ) × (i < length (k ∷ ks)) × (get_or (k ∷ ks) i 0 ≡ x)
+    at rec true q h = (0, omega arith, sym (eqb-true x k q))
+    at rec false q h = let r = rec h in (suc r.0, omega (arith, r.1), r.2)
+
+none_at : (x : ℕ) (ks : List ℕ) → list_any (eqb x) ks ≡ false → (i : ℕ) → i < length ks → get_or ks i 0 ≡ x → ⊥
+none_at x ks e i l same = absurd (let z : true ≡ false = sym (list_any_at (eqb x) ks i 0 l (eq-eqb x _ (sym same))) ∙ e in cc)
+
+-- where an id is looked up
+pub found_at : (ids : List ℕ) (x : ℕ) → Finds ids x (position (eqb x) ids)
+found_at ids x = at (ltb (position_or_len (eqb x) ids) (length ids)) refl
+  where
+    at : (t : Bool) → ltb (position_or_len (eqb x) ids) (length ids) ≡ t → Finds ids x (cond t (Some (position_or_len (eqb x) ids)) None)
+    at true q = let l = ltb-true _ _ q in (l, sym (eqb-true x _ (passes_at_first (eqb x) ids 0 l)))
+    at false q = λ i l e. eqb-false x _ (fails_before_first (eqb x) ids i 0 (omega (arith, l, ltb-false _ _ q))) (sym e)
+
+-- the keys are the first n ids, which all differ
+pub record IndexedTo (ids keys : List ℕ) (n : ℕ) : Type 0 where
+  pub are : keys ≡ take n ids
   pub apart : (i j : ℕ) → i < j → j < n → get_or ids i 0 ≡ get_or ids j 0 → ⊥
 
-pub indexed_none : (ids : List ℕ) (m : BTreeMap ℕ ℕ) → m.entries ≡ [] → IndexedTo ids m 0
-indexed_none ids m e = record {
-  located = found_none ids m e;
+pub indexed_none : (ids keys : List ℕ) → keys ≡ [] → IndexedTo ids keys 0
+indexed_none ids keys e = record {
+  are = e;
   apart = λ i j l k. absurd (omega arith);
 }
 
-module _ (ids : List ℕ) (m : BTreeMap ℕ ℕ) (n x : ℕ) (s : IndexedTo ids m n) (is : get_or ids n 0 ≡ x) where
-  pub indexed_twice : n < length ids → (o : Option ℕ) → o ≡ get nat_cmp m x → is_some o ≡ true → Again ids n
-  indexed_twice l None e h = absurd (let z : false ≡ true = h in cc)
-  indexed_twice l (Some i) e h = let t = subst (FoundIn ids n x) (sym e) (s.located x) in (l, (i, t.0, t.1 ∙ sym is))
+module _ (ids keys : List ℕ) (n x : ℕ) (s : IndexedTo ids keys n) (l : n < length ids) (is : get_or ids n 0 ≡ x) where
+  many : length keys ≡ n
+  many = ap length s.are ∙ length-take-le n ids (omega (arith, l))
 
-  none_is : (o : Option ℕ) → o ≡ get nat_cmp m x → is_some o ≡ false → (i : ℕ) → i < n → get_or ids i 0 ≡ x → ⊥
-  none_is None e h = subst (FoundIn ids n x) (sym e) (s.located x)
-  none_is (Some i) e h = absurd (let z : true ≡ false = h in cc)
+  key_is : (i : ℕ) → i < n → get_or keys i 0 ≡ get_or ids i 0
+  key_is i k = ap (λ l. get_or l i 0) s.are ∙ get_or-take n ids i 0 k
 
-  pub indexed_more : (o : Option ℕ) → o ≡ get nat_cmp m x → is_some o ≡ false → (m2 : BTreeMap ℕ ℕ) → Updates nat_cmp m m2 x (Some n) → IndexedTo ids m2 (n + 1)
-  indexed_more o e h m2 u = record {
-    located = found_more ids m n x s.located is m2 u;
+  pub indexed_twice : list_any (eqb x) keys ≡ true → Again ids n
+  indexed_twice h =
+      let t = any_at x keys h in
+      let before : t.0 < n = omega (arith, t.1, many) in
+      (l, (t.0, before, sym (key_is t.0 before) ∙ t.2 ∙ sym is))
+
+  pub indexed_more : list_any (eqb x) keys ≡ false → (new : List ℕ) → new ≡ insert_key eqb keys x → IndexedTo ids new (n + 1)
+  indexed_more h new e = record {
+    are = e ∙ cond-false _ _ _ h ∙ ap (λ l. l ++ (x ∷ [])) s.are ∙ ap (λ y. take n ids ++ (y ∷ [])) (sym is) ∙ sym (take_more ids n 0 l);
     apart = λ i j l k same. ⊎_elim
         (λ b. s.apart i j l b same)
-        (λ b. let last : j ≡ n = omega (arith, b, k) in none_is o e h i (omega (arith, l, last)) (same ∙ ap (λ m. get_or ids m 0) last ∙ is))
+        (λ b. let last : j ≡ n = omega (arith, b, k) in
+        let low : i < n = omega (arith, l, last) in
+        none_at x keys h i (omega (arith, low, many)) (key_is i low ∙ same ∙ ap (λ m. get_or ids m 0) last ∙ is))
         (cases_lt j n);
   }
 
@@ -152,11 +185,11 @@ words_all ids es ws now r n s end =
     s.onward now (subst (λ x. Played ids x (drop n ws) now now) (sym (drop_all n es end)) (subst (λ x. Played ids [] x now now) (sym (drop_all n ws (omega (arith, end, r.weighed)))) (record { whole = []; game = []; is = sym (append-nil now); ok = refl; alike = tt; weighs = refl; places = tt })))
 
 -- a node and its weight come together
-pub paired : (nodes : List Node) (ws : List ℕ) (i n w : ℕ) (d : Node) → i < length (zip (enumerate_from 0 nodes) ws) → ◌≡◌ {A = (ℕ × Node) × ℕ} ((n, d), w) (get_or (zip (enumerate_from 0 nodes) ws) i ((n, d), w)) → (i < length nodes) × (i ≡ n) × (d ≡ get_or nodes n d) × (w ≡ get_or ws n 0)
+pub paired : (nodes : List Entry) (ws : List ℕ) (i n w : ℕ) (d : Entry) → i < length (zip (enumerate_from 0 nodes) ws) → ◌≡◌ {A = (ℕ × Entry) × ℕ} ((n, d), w) (get_or (zip (enumerate_from 0 nodes) ws) i ((n, d), w)) → (i < length nodes) × (i ≡ n) × (d ≡ get_or nodes n d) × (w ≡ get_or ws n 0)
 paired nodes ws i n w d l e =
-    let all : List (ℕ × Node) = enumerate_from 0 nodes in
+    let all : List (ℕ × Entry) = enumerate_from 0 nodes in
     let low : i < length nodes = omega (arith, l, length-zip all ws, length-enumerate_from 0 nodes) in
     let under : i < length ws = omega (arith, l, length-zip all ws) in
-    let t : ◌≡◌ {A = (ℕ × Node) × ℕ} ((n, d), w) ((0 + i, get_or nodes i d), get_or ws i w) = e ∙ get_or-zip all ws i ((n, d), w) (omega (arith, low, length-enumerate_from 0 nodes)) under ∙ ap (λ p. (p, get_or ws i w)) (get_or-enumerate_from 0 nodes i (n, d) low) in
+    let t : ◌≡◌ {A = (ℕ × Entry) × ℕ} ((n, d), w) ((0 + i, get_or nodes i d), get_or ws i w) = e ∙ get_or-zip all ws i ((n, d), w) (omega (arith, low, length-enumerate_from 0 nodes)) under ∙ ap (λ p. (p, get_or ws i w)) (get_or-enumerate_from 0 nodes i (n, d) low) in
     let same : i ≡ n = let z : n ≡ 0 + i = ap (λ p. p.0.0) t in omega arith in
     (low, same, ap (λ p. p.0.1) t ∙ ap (λ k. get_or nodes k d) same, get_or_read ws i w under (ap (λ p. p.1) t) 0 ∙ ap (λ k. get_or ws k 0) same)

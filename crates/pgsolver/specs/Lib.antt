@@ -1,6 +1,5 @@
 -- PGSolver's text form of a game: what it says.
 pub mod Form
-pub mod Held
 pub mod Listed
 pub mod Read
 pub mod Table

@@ -65,8 +65,11 @@ pub record Listed (text : List ℕ) (ids : List ℕ) (names : List (List ℕ)) (
   pub plain : Below 256 (weights_of whole) → weights_of game ≡ weights_of whole
   pub wins : (w : ℕ) (plan : ℕ → ℕ) (won : ℕ → Bool) → WinsFrom whole w plan (λ n. T (won n)) ↔ WinsFrom game w plan (λ n. T (won n))
 
+abbrev pub listed_ids : Listing → List ℕ
+listed_ids l = map (λ p. p.id) (vec_items l.places)
+
 abbrev pub listed_names : Listing → List (List ℕ)
-listed_names l = map vec_items (vec_items l.names)
+listed_names l = map (λ p. vec_items p.name) (vec_items l.places)
 
 -- what a refusal says of the text
 abbrev pub Says : List ℕ → Refusal → Type 0

@@ -1,6 +1,7 @@
 -- What the code reads of a text.
-use Rattle.std.specs.Prelude.{◌≡◌, List, ℕ, Ok, Err, Result}
+use Rattle.std.specs.Prelude.{◌≡◌, List, ℕ, Ok, Err, vec_items, Result, Vec}
 use Rattle.std.specs.Borrow.{Bor}
+use Rattle.std.specs.declared.alloc.Global.{Global}
 use Rattle.pgsolver.specs.declared.refusal.Slip.{Slip}
 use Rattle.pgsolver.specs.declared.refusal.Stop.{Stop}
 use Rattle.pgsolver.specs.declared.refusal.Stop.TheVariants.{At, Memory}
@@ -29,3 +30,8 @@ Stops x Memory = Unit {0}
 abbrev pub ReadOrStops : {A B : Type 0} → (B → A) → Result (A × List ℕ) Slip → Result (B × Bor (List ℕ)) Stop → Type 0
 ReadOrStops v x (Ok p) = x ≡ Ok (v p.0, p.1.now)
 ReadOrStops v x (Err e) = Stops x e
+
+-- all values up to the end of the text, or where reading stops
+abbrev pub ReadAll : {A : Type 0} → Result (List A) Slip → Result (Vec A Global) Stop → Type 0
+ReadAll x (Ok v) = x ≡ Ok (vec_items v)
+ReadAll x (Err e) = Stops x e

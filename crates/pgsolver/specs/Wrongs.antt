@@ -1,7 +1,6 @@
 -- What is wrong with nodes, and the words that they make where nothing is.
 use Rattle.std.specs.Prelude.{◌≡◌, ℕ, ◌<◌, ◌≤◌, true, List, [], ◌∷◌, ◌++◌, map, length, Ok, Err, vec_items, Result, Vec, ◌≢◌, slice_index, slice_index_or}
 use Rattle.std.specs.declared.alloc.Global.{Global}
-use Rattle.std.specs.BTreeMap.{BTreeMap}
 use Rattle.endless.specs.Games.{Place, Game, below, ok_ps, row as words}
 use Rattle.endless.specs.Sides.{number}
 use Rattle.pgsolver.specs.declared.weights.NoWeights.{NoWeights}
@@ -10,7 +9,7 @@ use Rattle.pgsolver.specs.declared.wrong.Wrong.{Wrong}
 use Rattle.pgsolver.specs.declared.wrong.Wrong.TheVariants.{Twice, Unknown, Priority, Memory}
 use Rattle.pgsolver.specs.Form.{Entry, ids_in}
 use Rattle.pgsolver.specs.Weights.{Below, Alike, weights_of}
-use Rattle.pgsolver.specs.Table.{Locates, Apart}
+use Rattle.pgsolver.specs.Table.{Apart}
 
 abbrev pub Missing : List ℕ → ℕ → Type 0
 Missing ids x = (i : ℕ) → i < length ids → slice_index ids i ≢ x
@@ -19,8 +18,8 @@ Missing ids x = (i : ℕ) → i < length ids → slice_index ids i ≢ x
 abbrev pub Again : List ℕ → ℕ → Type 0
 Again ids n = (n < length ids) × ((i : ℕ) × (i < n) × (slice_index ids i ≡ slice_index ids n))
 
-abbrev pub Indexed : List Entry → Result (BTreeMap ℕ ℕ) Wrong → Type 0
-Indexed es (Ok m) = Locates m (ids_in es) × Apart (ids_in es)
+abbrev pub Indexed : List Entry → Result (List ℕ) Wrong → Type 0
+Indexed es (Ok ids) = (ids ≡ ids_in es) × Apart ids
 Indexed es (Err (Twice n)) = Again (ids_in es) n
 Indexed es (Err (Unknown n x)) = ⊥
 Indexed es (Err (Priority n)) = ⊥

@@ -1,26 +1,49 @@
 //! The places of the nodes by their ids.
 ghost use Rattle.std.specs.Prelude.{◌≡◌, ◌≤◌, length};
-ghost use Rattle.pgsolver.specs.Held.{entries_of};
+ghost use Rattle.pgsolver.specs.Table.{Finds};
 ghost use Rattle.pgsolver.specs.Wrongs.{Indexed};
 
 use crate::text::Node;
 use crate::wrong::Wrong;
+use indexmap::IndexSet;
 use std::alloc::Global;
-use std::collections::BTreeMap;
+use std::marker::Model;
 
-/// For each id the place of its node.
-pub(crate) type Places = BTreeMap<u32, u32>;
+/// The ids of the nodes, which all differ, each with the index of its place. A contract sees them as a list.
+#[derive(Drop)]
+pub(crate) struct Places {
+    ids: IndexSet<u32>,
+}
 
-/// The places of all nodes.
-pub(crate) fn index(heap: Global, nodes: &[Node]) -> Result<Places, Wrong>
-    requires { length nodes.now ≤ 16384 }
-    ensures { Indexed (entries_of nodes.now) result }
-{
-    let mut places = BTreeMap::new(heap);
-    for (n, node) in nodes.iter().enumerate() {
-        if places.insert(node.head.id, n as u32)?.is_some() {
-            return Err(Wrong::Twice(n));
+impl Model for Places {
+    ghost use Rattle.std.specs.Prelude.{ℕ, ◌≤◌, List, length};
+
+    ghost Value = { List ℕ };
+
+    ghost view = { λ p. p.ids.keys };
+
+    ghost invariant = { λ p. length p.ids.keys ≤ 16384 };
+}
+
+impl Places {
+    /// The places of all nodes.
+    pub(crate) fn of(heap: Global, nodes: &[Node]) -> Result<Places, Wrong>
+        requires { length nodes.now ≤ 16384 }
+        ensures { Indexed nodes.now result }
+    {
+        let mut ids = IndexSet::new(heap);
+        for (n, node) in nodes.iter().enumerate() {
+            if !ids.insert(node.head.id)? {
+                return Err(Wrong::Twice(n));
+            }
         }
+        Ok(Places { ids })
     }
-    Ok(places)
+
+    /// The place of the node with this id.
+    pub(crate) fn find(&self, id: u32) -> Option<u32>
+        ensures { Finds self.now id result }
+    {
+        Some(self.ids.get_index_of(&id)? as u32)
+    }
 }

@@ -3,12 +3,12 @@
 
 ghost use Rattle.std.specs.Prelude.{◌≡◌, ◌≤◌, length, IfOk, IfErr, Ok};
 ghost use Rattle.pgsolver.specs.Form.{priorities_in, entries};
-ghost use Rattle.pgsolver.specs.Held.{entries_of};
-ghost use Rattle.pgsolver.specs.Listed.{Assembled, Unassembled, Inside, Listed, listed_names, Says};
+ghost use Rattle.pgsolver.specs.Listed.{line_at, Assembled, Unassembled, Inside, Listed, listed_ids, listed_names, Says};
 ghost use Rattle.pgsolver.specs.Read.{Stops};
 ghost use Rattle.pgsolver.specs.Weights.{Fitted, Unfit};
 ghost use Rattle.pgsolver.specs.Wrongs.{FineAll};
 
+use crate::ids::Places;
 use crate::refusal::{Slip, Stop};
 use crate::text::Node;
 use crate::weights::NoWeights;
@@ -33,18 +33,26 @@ pub use weights::compress;
 /// The most bytes of a text.
 pub const MOST_BYTES: usize = 1_048_576;
 
-/// A game as words, and the ids and names of its places in their order; a name that is missing is empty.
+/// What a node calls its place.
+#[derive(Drop)]
+pub struct Named {
+    pub id: u32,
+    // (d) no `Option`: the form's definition (`name` in specs/Form.antt) reads a missing name as the empty one.
+    /// Empty where the node has none.
+    pub name: Vec<u8>,
+}
+
+/// A game as words, and what its places are called, in their order.
 #[derive(Drop)]
 pub struct Listing {
     pub words: Vec<u32>,
-    pub ids: Vec<u32>,
-    pub names: Vec<Vec<u8>>,
+    pub places: Vec<Named>,
 }
 
 /// The weights of the nodes.
 fn weigh(heap: Global, nodes: &[Node]) -> Result<Vec<u32>, NoWeights>
-    ensures fitted { IfOk result (λ v. Fitted (priorities_in (entries_of nodes.now)) v.items) }
-    ensures unfit { IfErr result (λ e. Unfit (priorities_in (entries_of nodes.now)) e) }
+    ensures fitted { IfOk result (λ v. Fitted (priorities_in nodes.now) v.items) }
+    ensures unfit { IfErr result (λ e. Unfit (priorities_in nodes.now) e) }
 {
     let priorities: Vec<u32> = nodes.iter().map(|node| node.head.priority).collect(heap)?;
     compress(heap, &priorities)
@@ -52,31 +60,41 @@ fn weigh(heap: Global, nodes: &[Node]) -> Result<Vec<u32>, NoWeights>
 
 /// The words of the nodes.
 fn assemble(heap: Global, nodes: &[Node]) -> Result<Vec<u32>, Wrong>
-    requires fine { FineAll (entries_of nodes.now) }
+    requires fine { FineAll nodes.now }
     requires few { length nodes.now ≤ 16384 }
-    ensures { Assembled (entries_of nodes.now) result }
+    ensures { Assembled nodes.now result }
 {
-    let places = ids::index(heap, nodes)?;
+    let places = Places::of(heap, nodes)?;
     let weights = weigh(heap, nodes)?;
     words::write_words(heap, &places, nodes, &weights)
 }
 
+/// The line in which the node begins.
+fn line_of(text: &[u8], node: &Node) -> usize
+    ensures { result ≡ line_at text.now node.now.left }
+{
+    line::line_at(text, node.left)
+}
+
 /// What is said of a text whose nodes are wrong.
 fn refused(text: &[u8], nodes: &[Node], wrong: Wrong) -> Refusal
-    requires { Inside (entries_of nodes.now) wrong }
-    ensures { entries text.now ≡ Ok (entries_of nodes.now) → Unassembled (entries_of nodes.now) wrong → Says text.now result }
+    requires { Inside nodes.now wrong }
+    ensures { entries text.now ≡ Ok nodes.now → Unassembled nodes.now wrong → Says text.now result }
 {
     match wrong {
-        Wrong::Twice(n) => Refusal::Twice {
-            line: line::line_at(text, nodes[n].left),
-            id: nodes[n].head.id,
-        },
+        Wrong::Twice(n) => {
+            let node = &nodes[n];
+            Refusal::Twice {
+                line: line_of(text, node),
+                id: node.head.id,
+            }
+        }
         Wrong::Unknown(n, id) => Refusal::Unknown {
-            line: line::line_at(text, nodes[n].left),
+            line: line_of(text, &nodes[n]),
             id,
         },
         Wrong::Priority(n) => Refusal::TooManyPriorities {
-            line: line::line_at(text, nodes[n].left),
+            line: line_of(text, &nodes[n]),
         },
         Wrong::Memory => Refusal::Memory,
     }
@@ -97,7 +115,7 @@ fn stopped(text: &[u8], stop: Stop) -> Refusal
 
 /// Reads PGSolver's form: ID PRIORITY OWNER SUCC,SUCC,.. "NAME"; for each node, behind `parity N;` and `start N;`, which may be missing.
 pub fn read(heap: Global, text: &[u8]) -> Result<Listing, Refusal>
-    ensures listed { IfOk result (λ l. Listed text.now l.ids.items (listed_names l) l.words.items) }
+    ensures listed { IfOk result (λ l. Listed text.now (listed_ids l) (listed_names l) l.words.items) }
     ensures says { IfErr result (λ e. Says text.now e) }
 {
     if text.len() > MOST_BYTES {
@@ -108,7 +126,12 @@ pub fn read(heap: Global, text: &[u8]) -> Result<Listing, Refusal>
         return Err(Refusal::NoNodes);
     }
     let words = assemble(heap, &nodes).map_err(|wrong| refused(text, &nodes, wrong))?;
-    let ids = nodes.iter().map(|node| node.head.id).collect(heap)?;
-    let names = nodes.into_iter().map(|node| node.name).collect(heap)?;
-    Ok(Listing { words, ids, names })
+    let places = nodes
+        .into_iter()
+        .map(|node| Named {
+            id: node.head.id,
+            name: node.name,
+        })
+        .collect(heap)?;
+    Ok(Listing { words, places })
 }

@@ -70,9 +70,8 @@ fn name(text: &[u8]) -> Result<(&[u8], &[u8]), Slip>
     let Some(rest) = scan::behind(b"\"", text) else {
         return Ok((&text[..0], text));
     };
-    let Some(n) = rest.iter().position(|b| *b == b'"') else {
-        return Err(Slip::at(Fault::Quote, rest));
-    };
+    let closing = rest.iter().position(|b| *b == b'"');
+    let n = closing.ok_or(Slip::at(Fault::Quote, rest))?;
     Ok((&rest[..n], &rest[n + 1..]))
 }
 

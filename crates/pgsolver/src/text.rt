@@ -1,18 +1,18 @@
 //! The nodes of a text, in their order.
 ghost use Rattle.std.specs.Prelude.{◌≡◌, ◌≤◌};
 ghost use Rattle.pgsolver.specs.Form.{node, nodes, header, entries};
-ghost use Rattle.pgsolver.specs.Held.{entry_of, NodesRead};
-ghost use Rattle.pgsolver.specs.Read.{ReadRest, ReadOrStops};
+ghost use Rattle.pgsolver.specs.Read.{ReadRest, ReadOrStops, ReadAll};
 
 use crate::node::Head;
 use crate::refusal::{Fault, Slip, Stop};
 use crate::{node, scan};
 use std::alloc::Global;
+use std::marker::Model;
 
 /// The most nodes.
 pub const MOST_NODES: usize = 16_384;
 
-/// A node: what stands first in it, how many bytes of the text are left where it begins, the ids of its successors, and its name.
+/// A node: what stands first in it, how many bytes of the text are left where it begins, the ids of its successors, and its name. A contract sees what it says.
 #[derive(Drop)]
 pub(crate) struct Node {
     pub(crate) head: Head,
@@ -21,10 +21,18 @@ pub(crate) struct Node {
     pub(crate) name: Vec<u8>,
 }
 
+impl Model for Node {
+    ghost use Rattle.pgsolver.specs.Form.{Entry};
+
+    ghost Value = { Entry };
+
+    ghost view = { λ n. record { first = n.head; left = n.left; goes = n.goals.items; named = n.name.items } };
+}
+
 /// Reads a node; so many successors are used by the nodes before.
 fn read_node(heap: Global, text: &[u8], used: usize) -> Result<(Node, &[u8]), Stop>
     requires { used ≤ 64000 }
-    ensures { ReadOrStops entry_of (node used text.now) result }
+    ensures { ReadOrStops (λ n. n) (node used text.now) result }
 {
     let (head, rest) = node::read_head(text)?;
     let (goals, rest) = node::goals(heap, rest, used)?;
@@ -43,7 +51,7 @@ fn read_node(heap: Global, text: &[u8], used: usize) -> Result<(Node, &[u8]), St
 }
 
 fn read_nodes(heap: Global, text: &[u8]) -> Result<Vec<Node>, Stop>
-    ensures { NodesRead (nodes text.now) result }
+    ensures { ReadAll (nodes text.now) result }
 {
     let mut nodes = Vec::new(heap);
     let mut used = 0;
@@ -76,7 +84,7 @@ fn header<'a>(word: &[u8], text: &'a [u8]) -> Result<&'a [u8], Slip>
 
 /// The nodes of the text, behind its header.
 pub(crate) fn read_text(heap: Global, text: &[u8]) -> Result<Vec<Node>, Stop>
-    ensures { NodesRead (entries text.now) result }
+    ensures { ReadAll (entries text.now) result }
 {
     let rest = header(b"parity", text)?;
     let rest = header(b"start", rest)?;

@@ -1,9 +1,6 @@
 //! The words of the game.
 ghost use Rattle.std.specs.Prelude.{◌≡◌, ℕ, ◌≤◌, List, [], ◌∷◌, ◌++◌, length};
 ghost use Rattle.endless.specs.Sides.{number};
-ghost use Rattle.pgsolver.specs.Form.{ids_in};
-ghost use Rattle.pgsolver.specs.Held.{entries_of};
-ghost use Rattle.pgsolver.specs.Table.{Locates};
 ghost use Rattle.pgsolver.specs.Wrongs.{Went, Ready, Worded};
 
 use crate::ids::Places;
@@ -13,13 +10,11 @@ use std::alloc::Global;
 
 /// Adds the places that the successors of node n are.
 fn write_goals(places: &Places, goals: &[u32], n: usize, words: &mut Vec<u32>) -> Result<(), Wrong>
-    ensures { (ids : List ℕ) → Locates places.now ids → Went ids goals.now n words.old.items words.new.items result }
+    ensures { Went places.now goals.now n words.old.items words.new.items result }
 {
     for goal in goals {
-        let Some(place) = places.get(goal) else {
-            return Err(Wrong::Unknown(n, *goal));
-        };
-        words.push(*place)?;
+        let place = places.find(*goal).ok_or(Wrong::Unknown(n, *goal))?;
+        words.push(place)?;
     }
     Ok(())
 }
@@ -32,8 +27,8 @@ fn write_place(
     n: usize,
     words: &mut Vec<u32>,
 ) -> Result<(), Wrong>
-    requires { length node.now.goals.items ≤ 64000 }
-    ensures { (ids : List ℕ) → Locates places.now ids → Went ids node.now.goals.items n (words.old.items ++ (number node.now.head.owner ∷ weight ∷ length node.now.goals.items ∷ [])) words.new.items result }
+    requires { length node.now.goes ≤ 64000 }
+    ensures { Went places.now node.now.goes n (words.old.items ++ (number node.now.first.owner ∷ weight ∷ length node.now.goes ∷ [])) words.new.items result }
 {
     words.push(u32::from(node.head.owner))?;
     words.push(weight)?;
@@ -48,9 +43,8 @@ pub(crate) fn write_words(
     nodes: &[Node],
     weights: &[u32],
 ) -> Result<Vec<u32>, Wrong>
-    requires located { Locates places.now (ids_in (entries_of nodes.now)) }
-    requires ready { Ready weights.now (entries_of nodes.now) }
-    ensures { Worded (ids_in (entries_of nodes.now)) (entries_of nodes.now) weights.now result }
+    requires { Ready weights.now nodes.now }
+    ensures { Worded places.now nodes.now weights.now result }
 {
     let mut words = Vec::new(heap);
     words.push(nodes.len() as u32)?;

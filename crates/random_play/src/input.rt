@@ -1,10 +1,8 @@
 //! The drawing from its file.
 use crate::fault::Fault;
-use drawing::{Drawing, read_from};
-use std::fs::File;
-use std::io;
+use drawing::{Drawing, Unread, read_path};
 
 /// The drawing that stands in `file`.
 pub(crate) fn drawing(rt: &HostRuntime, file: &str) -> Result<Drawing, Fault> {
-    Ok(read_from(rt.alloc(), File::open(rt, file)?)?)
+    Ok(read_path(rt, file)?)
 }

@@ -1,10 +1,9 @@
 use Rattle.std.proofs.Common.{length, vec_items}
-use Rattle.pgsolver.specs.Held.{entries_of}
 use Rattle.pgsolver.proofs.Gathers.{LeftNodes}
 use Rattle.pgsolver.proofs.text.read_nodes.Given as goal
 
 abbrev pub invariant-loop-here : goal.invariant-loop-here
-invariant-loop-here l = LeftNodes l.text (entries_of (vec_items l.nodes)) l.used l.rest
+invariant-loop-here l = LeftNodes l.text (vec_items l.nodes) l.used l.rest
 
 abbrev pub decreases-loop-here : goal.decreases-loop-here
 decreases-loop-here l = length l.rest

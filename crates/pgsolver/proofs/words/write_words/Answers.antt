@@ -1,21 +1,15 @@
-use Rattle.std.proofs.Common.{◌≡◌, ◌+◌, ◌<◌, ℕ, List, [], ◌∷◌, ◌++◌, length, get_or, vec_items, sym, ap, ◌∙◌, subst, arith}
+use Rattle.std.proofs.Common.{◌≡◌, ◌+◌, ◌<◌, List, [], ◌∷◌, ◌++◌, length, get_or, vec_items, sym, subst, arith}
 use Rattle.std.specs.List.{enumerate_from}
 use Rattle.std.proofs.lemmas.Iterator.{YieldsList-from_slice, YieldsList-from_zip}
 use Rattle.std.proofs.lemmas.Iterator.Consumers.{YieldsList-from_enumerate, YieldsList-turn, YieldsList-end}
-use Rattle.std.proofs.lemmas.List.{length-map, get_or-map, length_push}
+use Rattle.std.proofs.lemmas.List.{length_push}
 use Rattle.std.proofs.lemmas.List.FromFn.{length-enumerate_from}
 use Rattle.std.proofs.lemmas.Result.{err_from_is_err_and}
 use Rattle.std.proofs.lemmas.Slice.Zip.{length-zip}
-use Rattle.pgsolver.specs.declared.text.Node.{Node}
-use Rattle.pgsolver.specs.Form.{Entry, ids_in}
-use Rattle.pgsolver.specs.Held.{entry_of, entries_of}
+use Rattle.pgsolver.specs.Form.{Entry}
 use Rattle.pgsolver.proofs.Writes.{LeftWords, paired, goes_few, words_more, words_all, words_wrong}
 use Rattle.pgsolver.proofs.words.write_words.Goals as goal
 use Rattle.pgsolver.proofs.words.write_words.Goals.{In-Some}
-
--- node n is entry n
-entry_is : (nodes : List Node) (n : ℕ) (d : Node) → n < length nodes → d ≡ get_or nodes n d → get_or (entries_of nodes) n (entry_of d) ≡ entry_of d
-entry_is nodes n d l is = get_or-map entry_of nodes n d (entry_of d) l ∙ ap entry_of (sym is)
 
 -- the node and the weight of this turn
 turn : (c : In-Some) → (length c.loop-n.yielded < length c.args.nodes.now) × (length c.loop-n.yielded ≡ c.in-Some.n) × (c.in-Some.node.now ≡ get_or c.args.nodes.now c.in-Some.n c.in-Some.node.now) × (c.in-Some.weight.now ≡ get_or c.args.weights.now c.in-Some.n 0)
@@ -24,38 +18,38 @@ turn c =
     paired c.args.nodes.now c.args.weights.now (length c.loop-n.yielded) c.in-Some.n c.in-Some.weight.now c.in-Some.node.now t.0 t.1
 
 -- what was left to write before this turn
-left : (c : In-Some) → LeftWords (ids_in (entries_of c.args.nodes.now)) (entries_of c.args.nodes.now) c.args.weights.now (vec_items c.loop-n.words) c.in-Some.n
-left c = subst (λ n. LeftWords (ids_in (entries_of c.args.nodes.now)) (entries_of c.args.nodes.now) c.args.weights.now (vec_items c.loop-n.words) n) (turn c).1 c.loop-n.invariant
+left : (c : In-Some) → LeftWords c.args.places.now c.args.nodes.now c.args.weights.now (vec_items c.loop-n.words) c.in-Some.n
+left c = subst (λ n. LeftWords c.args.places.now c.args.nodes.now c.args.weights.now (vec_items c.loop-n.words) n) (turn c).1 c.loop-n.invariant
 
-low : (c : In-Some) → c.in-Some.n < length (entries_of c.args.nodes.now)
-low c = omega (arith, (turn c).0, (turn c).1, length-map c.args.nodes.now entry_of)
+low : (c : In-Some) → c.in-Some.n < length c.args.nodes.now
+low c = omega (arith, (turn c).0, (turn c).1)
 
-is_entry : (c : In-Some) → get_or (entries_of c.args.nodes.now) c.in-Some.n (entry_of c.in-Some.node.now) ≡ entry_of c.in-Some.node.now
-is_entry c = entry_is c.args.nodes.now c.in-Some.n c.in-Some.node.now (omega (arith, (turn c).0, (turn c).1)) (turn c).2
+is_entry : (c : In-Some) → get_or c.args.nodes.now c.in-Some.n c.in-Some.node.now ≡ c.in-Some.node.now
+is_entry c = sym (turn c).2
 
 pub write_place-requires : goal.write_place-requires
 write_place-requires c =
     let s = (goal.at.write_place-requires c).In-Some in
-    goes_few (ids_in (entries_of c.args.nodes.now)) (entries_of c.args.nodes.now) _ _ c.requires.ready _ (left s) (low s) _ (is_entry s)
+    goes_few c.args.places.now c.args.nodes.now _ _ c.requires _ (left s) (low s) _ (is_entry s)
 
 pub returns-in_err-write_place : goal.returns-in_err-write_place
 returns-in_err-write_place c =
     let p = err_from_is_err_and c.from_residual-in_err-write_place.result c.from_residual-in_err-write_place.ensures.1 in
     let s = (goal.at.returns-in_err-write_place c).In-Some in
-    let es : List Entry = entries_of c.args.nodes.now in
-    rw (p.1, p.2) (words_wrong (ids_in es) es _ _ c.requires.ready _ (left s) (low s) _ (is_entry s) c.in-Some.weight.now (turn s).3 (vec_items c.write_place.new.words) _ (c.in_err-write_place.ensures (ids_in es) c.requires.located))
+    let es : List Entry = c.args.nodes.now in
+    rw (p.1, p.2) (words_wrong c.args.places.now es _ _ c.requires _ (left s) (low s) _ (is_entry s) c.in-Some.weight.now (turn s).3 (vec_items c.write_place.new.words) _ c.in_err-write_place.ensures)
 
 pub loop-n-preserved : goal.loop-n-preserved
 loop-n-preserved c =
     let s = (goal.at.loop-n-preserved c).In-Some in
-    let es : List Entry = entries_of c.args.nodes.now in
-    let next = words_more (ids_in es) es _ _ c.requires.ready _ (left s) (low s) _ (is_entry s) c.in-Some.weight.now (turn s).3 (vec_items c.write_place.new.words) (c.in_ok-write_place.ensures (ids_in es) c.requires.located) in
+    let es : List Entry = c.args.nodes.now in
+    let next = words_more c.args.places.now es _ _ c.requires _ (left s) (low s) _ (is_entry s) c.in-Some.weight.now (turn s).3 (vec_items c.write_place.new.words) c.in_ok-write_place.ensures in
     let far : c.in-Some.n + 1 ≡ length (c.loop-n.yielded ++ ((c.in-Some.n, c.in-Some.node), c.in-Some.weight) ∷ []) = omega (arith, (turn s).1, length_push c.loop-n.yielded ((c.in-Some.n, c.in-Some.node), c.in-Some.weight)) in
-    subst (λ n. LeftWords (ids_in es) es c.args.weights.now (vec_items c.write_place.new.words) n) far next
+    subst (λ n. LeftWords c.args.places.now es c.args.weights.now (vec_items c.write_place.new.words) n) far next
 
 pub returns : goal.returns
 returns c =
     let nodes = c.args.nodes.now in
     let ws = c.args.weights.now in
     let t = YieldsList-end (YieldsList-from_zip (YieldsList-from_enumerate (YieldsList-from_slice nodes (cc)) (cc)) (YieldsList-from_slice ws (cc))) c.loop-n.yielded c.loop-n.n-iterator c.loop-n.yielded_by c.next.result c.next.new.self c.in-None.is c.next.ensures.steps in
-    words_all _ (entries_of nodes) _ _ c.requires.ready _ c.loop-n.invariant (omega (arith, t.1, length-zip (enumerate_from 0 nodes) ws, length-enumerate_from 0 nodes, length-map nodes entry_of, c.requires.ready.weighed))
+    words_all _ nodes _ _ c.requires _ c.loop-n.invariant (omega (arith, t.1, length-zip (enumerate_from 0 nodes) ws, length-enumerate_from 0 nodes, c.requires.weighed))

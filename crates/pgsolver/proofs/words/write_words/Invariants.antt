@@ -1,8 +1,6 @@
 use Rattle.std.proofs.Common.{length, vec_items}
-use Rattle.pgsolver.specs.Form.{ids_in}
-use Rattle.pgsolver.specs.Held.{entries_of}
 use Rattle.pgsolver.proofs.Writes.{LeftWords}
 use Rattle.pgsolver.proofs.words.write_words.Given as goal
 
 abbrev pub invariant-loop-n : goal.invariant-loop-n
-invariant-loop-n l = LeftWords (ids_in (entries_of l.nodes)) (entries_of l.nodes) l.weights (vec_items l.words) (length l.yielded)
+invariant-loop-n l = LeftWords l.places l.nodes l.weights (vec_items l.words) (length l.yielded)

@@ -1,7 +1,0 @@
-use Rattle.pgsolver.specs.Form.{ids_in}
-use Rattle.pgsolver.specs.Held.{entries_of}
-use Rattle.pgsolver.proofs.Writes.{IndexedTo}
-use Rattle.pgsolver.proofs.ids.index.Given as goal
-
-abbrev pub invariant-loop-n : goal.invariant-loop-n
-invariant-loop-n l = IndexedTo (ids_in (entries_of l.nodes)) l.places l.n
