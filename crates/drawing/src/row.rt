@@ -28,7 +28,7 @@ pub(crate) struct Row<'a> {
 fn side(word: Spelt<'_>) -> Option<Side>
     ensures { option_map number result ≡ side_of (is_quoted word.entry) (meant word.entry) }
 {
-    // (d) no `parse`: a `Side` is made of a number (`TryFrom<u32>`), and as text two words alone stand for one, so that the patterns name them.
+    // No `parse`: a `Side` is made of a number (`TryFrom<u32>`), and as text two words alone stand for one, so that the patterns name them.
     match word {
         Spelt::Bare("0") => Some(Side::Even),
         Spelt::Bare("1") => Some(Side::Odd),
@@ -40,7 +40,7 @@ fn side(word: Spelt<'_>) -> Option<Side>
 fn number(bytes: &[u8]) -> Option<u32>
     ensures { result ≡ digits 0 bytes.now }
 {
-    // (d) no `parse`: it would take a `+` in front, which is no part of a weight, and the definition (`digits`) goes digit by digit.
+    // No `parse`: it would take a `+` in front, which is no part of a weight, and the definition (`digits`) goes digit by digit.
     let mut n = 0;
     for b in bytes {
         if !b.is_ascii_digit() {

@@ -37,7 +37,7 @@ pub const MOST_BYTES: usize = 1_048_576;
 #[derive(Drop)]
 pub struct Named {
     pub id: u32,
-    // (d) no `Option`: the form's definition (`name` in specs/Form.antt) reads a missing name as the empty one.
+    // No `Option`: the form's definition (`name` in specs/Form.antt) reads a missing name as the empty one.
     /// Empty where the node has none.
     pub name: Vec<u8>,
 }

@@ -32,7 +32,7 @@ pub(crate) fn behind<'a>(word: &[u8], text: &'a [u8]) -> Option<&'a [u8]>
 fn digits(text: &[u8]) -> Result<(u32, &[u8]), Slip>
     ensures { Read (digits 0 text.now) result }
 {
-    // (d) no `parse`: it does not tell at which digit the number becomes too large.
+    // No `parse`: it does not tell at which digit the number becomes too large.
     let mut value = 0u32;
     for (n, b) in text.iter().enumerate() {
         let rest = &text[n..];
