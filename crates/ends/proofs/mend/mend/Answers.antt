@@ -1,7 +1,6 @@
-use Rattle.std.proofs.Common.{get_or, sym, refl, subst, arith, rules}
-use Rattle.std.proofs.lemmas.List.{length-set}
+use Rattle.std.proofs.Common.{get_or, sym, refl, subst, rules}
 use Rattle.ends.specs.Mending.{MendedIs}
-use Rattle.ends.proofs.Mending.{told_small, mending_none, mending_more, mending_stops, mending_all, mending_behind}
+use Rattle.ends.proofs.Mending.{mending_none, mending_more, mending_stops}
 use Rattle.ends.proofs.mend.mend.Goals as goal
 
 pub loop-index-init : goal.loop-index-init

@@ -1,7 +1,6 @@
 use Rattle.std.proofs.Common.{length, get_or, ap, ◌∙◌, arith}
 use Rattle.std.proofs.lemmas.List.{take_rest, length-drop}
 use Rattle.endless.proofs.Reading.{front_weighs, front_many, front_long, reading_next}
-use Rattle.ends.proofs.Mending.{head_words}
 use Rattle.ends.proofs.mend.read_head.Goals as goal
 use Rattle.ends.proofs.mend.read_head.Goals.{then-head-ge256-via-then-head-ge256, then-head-ge256-via-else-head-ge256+then-place-head}
 
