@@ -95,10 +95,10 @@ mod tests {
             return Err(Fail::new("read"));
         };
         match why {
-            Unread::Refused {
-                refusal,
-                line: Some(line),
-            } => {
+            Unread::Refused { refusal, line } => {
+                let Some(line) = line else {
+                    return Err(Fail::new("no line"));
+                };
                 assert_eq!(rt; line.as_str(), "a 0 1: b");
                 match refusal {
                     Refusal::Unknown { line: 1, name } => assert_eq!(rt; name.as_str(), "b"),
