@@ -28,7 +28,7 @@ pub(crate) struct Row<'a> {
 fn side(word: Spelt<'_>) -> Option<Side>
     ensures { option_map number result ≡ side_of (is_quoted word.entry) (meant word.entry) }
 {
-    // No `parse`: a `Side` is made of a number (`TryFrom<u32>`), and as text two words alone stand for one, so that the patterns name them.
+    // No `parse`: tried, and that its words are those of the form was not found.
     match word {
         Spelt::Bare("0") => Some(Side::Even),
         Spelt::Bare("1") => Some(Side::Odd),

@@ -99,11 +99,6 @@ fn number(arg: String) -> Result<u64, Fault> {
     arg.as_str().parse().map_err(|_| Fault::Moves(arg))
 }
 
-/// The sides are written 0 and 1, and not 01 or +1 as numbers may be.
 fn side_named(arg: String) -> Result<Side, Fault> {
-    match arg.as_str() {
-        "0" => Ok(Side::Even),
-        "1" => Ok(Side::Odd),
-        _ => Err(Fault::Side(arg)),
-    }
+    arg.as_str().parse().map_err(|_| Fault::Side(arg))
 }
