@@ -1,6 +1,6 @@
 //! In how many moves a side can make sure that the play comes to a place.
-ghost use Rattle.std.specs.Prelude.{ℕ, ◌+◌, ◌*◌, ◌<◌, ◌≤◌, length};
-ghost use Rattle.endless.specs.Games.{Game, Reads};
+ghost use Rattle.std.specs.Prelude.{ℕ, ◌*◌, ◌<◌, ◌≤◌, length};
+ghost use Rattle.endless.specs.Layout.{lent_for};
 ghost use Rattle.endless.specs.Says.{goes};
 ghost use Rattle.endless.specs.Sides.{number as side-number};
 ghost use Rattle.endless.specs.Pulling.{Unchanged};
@@ -12,6 +12,7 @@ use endless::answer::PlaceId;
 use endless::graph::Graph;
 use endless::layout::Layout;
 use endless::side::Side;
+use endless::words::GameWords;
 use endless::{Refusal, layout};
 
 /// The least number of moves in which `side` can make sure that the play
@@ -30,27 +31,29 @@ pub fn distances_to(
 ) -> Result<(), Refusal>
     ensures { DistancesPost words.now (length work.old) (side-number side) target.0 out.old out.new result }
 {
-    layout::accept(words, work.len())?;
-    if target.0 >= words[0] {
+    let game = layout::accept(words, work.len())?;
+    if target.0 >= game.len() {
         return Err(Refusal::NoPlace);
     }
-    layout::out_room(words[0], out.len())?;
-    measure(words, side, target.0, out, work);
+    layout::out_room(game.len(), out.len())?;
+    measure(game, side, target.0, out, work);
     Ok(())
 }
 
 /// Lays a game out, and numbers its places from the target.
-fn measure<'a>(words: &'a [u32], side: Side, target: u32, out: &mut [u32], work: &'a mut [u32])
-    requires { (g : Game) × Reads words.now g × (target < length g) × (2 * length g ≤ length out.old) × (65536 + 4 * length words.now ≤ length work.old) }
-    ensures behind { (g : Game) → Reads words.now g → target < length g → 2 * length g ≤ length out.old → (n : ℕ) → length g ≤ n → Unchanged out.old out.new n }
-    ensures measured { (g : Game) → Reads words.now g → target < length g → 2 * length g ≤ length out.old → Measured g (side-number side) target (number out.new) (goes out.new) }
+fn measure<'a>(game: GameWords<'a>, side: Side, target: u32, out: &mut [u32], work: &'a mut [u32])
+    requires target { target < length game }
+    requires out { 2 * length game ≤ length out.old }
+    requires lent { lent_for game ≤ length work.old }
+    ensures behind { (n : ℕ) → length game.entry ≤ n → Unchanged out.old out.new n }
+    ensures measured { Measured game.entry (side-number side) target (number out.new) (goes out.new) }
 {
     let Layout {
         graph,
         queue,
         escapes,
         ..
-    } = layout::lay_out(words, work);
+    } = layout::lay_out(game, work);
     number_from(&graph, side, target, out, queue, escapes);
 }
 

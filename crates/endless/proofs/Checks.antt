@@ -126,20 +126,20 @@ both_hold g o two even odd = record { one_of_two = λ n x. two n (whole_place g 
 
 -- ---- what `check` promises
 
-pub wrong_checked : (s : List ℕ) (lent : ℕ) (o : List ℕ) (a : Accepts s lent (Ok tt)) (r : Reason) → ReasonIs a.1.0 o r → CheckedPost s lent o (Err (Wrong r))
-wrong_checked s lent o a r is =
-    let refutes = reason_refutes a.1.1 r is in
+pub wrong_checked : (s : List ℕ) (lent : ℕ) (g : Game) (o : List ℕ) → Accepts s lent (Ok g) → (r : Reason) → ReasonIs g o r → CheckedPost s lent o (Err (Wrong r))
+wrong_checked s lent g o a r is =
+    let refutes = reason_refutes a.1 r is in
     record {
-      says = (a.1.0, a.1.1, is, refutes);
+      says = (g, a.1, is, refutes);
       few = (λ x. absurd (omega arith), λ e. cc);
-      right = λ l g reads. (λ e. cc, λ b. absurd (refutes (subst (λ (x : Game). IsAnswer x o) (one_game s g a.1.0 reads a.1.1) b)));
-      no_game = λ l. (λ e. cc, λ n. absurd (n a.1.0 a.1.1));
+      right = λ l h reads. (λ e. cc, λ b. absurd (refutes (subst (λ (x : Game). IsAnswer x o) (one_game s h g reads a.1) b)));
+      no_game = λ l. (λ e. cc, λ n. absurd (n g a.1));
     }
 
-pub right_checked : (s : List ℕ) (lent : ℕ) (o : List ℕ) (a : Accepts s lent (Ok tt)) → IsAnswer a.1.0 o → CheckedPost s lent o (Ok tt)
-right_checked s lent o a is = record {
-  says = (a.1.0, a.1.1, is);
+pub right_checked : (s : List ℕ) (lent : ℕ) (g : Game) (o : List ℕ) → Accepts s lent (Ok g) → IsAnswer g o → CheckedPost s lent o (Ok tt)
+right_checked s lent g o a is = record {
+  says = (g, a.1, is);
   few = (λ x. absurd (omega arith), λ e. cc);
-  right = λ l g reads. (λ e. subst (λ (x : Game). IsAnswer x o) (one_game s a.1.0 g a.1.1 reads) is, λ b. refl);
-  no_game = λ l. (λ e. cc, λ n. absurd (n a.1.0 a.1.1));
+  right = λ l h reads. (λ e. subst (λ (x : Game). IsAnswer x o) (one_game s g h a.1 reads) is, λ b. refl);
+  no_game = λ l. (λ e. cc, λ n. absurd (n g a.1));
 }

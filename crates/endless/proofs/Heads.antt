@@ -2,7 +2,7 @@
 use Rattle.std.proofs.Common.{◌≡◌, ℕ, suc, ◌+◌, ◌-◌, ◌<◌, ◌≤◌, ◌⊎◌, List, [], ◌∷◌, length, get_or, drop, map, sym, refl, ap, ◌∙◌, subst, ap₂, inl, inr, add-one, arith}
 use Rattle.std.proofs.lemmas.List.{drop_all, drop_at, drop-drop, length-append}
 use Rattle.std.proofs.lemmas.Bool.{cases_lt}
-use Rattle.endless.specs.Games.{Place, Game, Reads, opt, row, weight}
+use Rattle.endless.specs.Games.{Place, Game, opt, row, weight}
 use Rattle.endless.specs.Graph.{moves}
 use Rattle.endless.specs.Heads.{Rows, head_of, heads_in}
 use Rattle.endless.specs.declared.place.HeadWords.{HeadWords}
@@ -60,13 +60,6 @@ turn g i head rest e = go (cases_lt i (length g))
           others = (let r : map head_of (drop (suc i) g) ≡ rest = cc is in sym r) ∙ ap (λ k. map head_of (drop k g)) (sym (add-one i));
         }
     go (inr h) = absurd (omega (arith, ap length (sym (ap (map head_of) (drop_all i g h)) ∙ e)))
-
--- the heads that a game's words begin with are those of its places
-pub heads_start : (s : List ℕ) (g : Game) → Reads s g → (Rows (get_or s 0 0) (drop 1 s)) × (heads_in (get_or s 0 0) (drop 1 s) ≡ map head_of g)
-heads_start s g r =
-    let many : length g ≡ get_or s 0 0 = sym (ap (λ l. get_or l 0 0) r.is) in
-    let are : drop 1 s ≡ row g = ap (drop 1) r.is in
-    ((g, many, are), heads_are (get_or s 0 0) (drop 1 s) g many are)
 
 pub heads_none : (n : ℕ) (s : List ℕ) → Rows n s → n ≡ 0 → heads_in n s ≡ []
 heads_none n s ([], e, is) z = heads_are n s [] e is

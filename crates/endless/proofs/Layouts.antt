@@ -1,5 +1,5 @@
 -- The parts of the lent words: they fit, and the first level has its room.
-use Rattle.std.proofs.Common.{◌≡◌, ℕ, ◌+◌, ◌*◌, ◌≤◌, T, ltb, List, length, sym, subst, mul-le-mul_right, add-mul, arith, ltb→lt, lt→ltb}
+use Rattle.std.proofs.Common.{◌≡◌, ℕ, ◌+◌, ◌*◌, ◌≤◌, T, ltb, List, length, sym, ap, subst, mul-le-mul_right, add-mul, arith, ltb→lt, lt→ltb}
 use Rattle.endless.specs.Games.{Game, Reads}
 use Rattle.endless.specs.Says.{side, goes}
 use Rattle.endless.specs.Sets.{Within, whole}
@@ -9,7 +9,8 @@ use Rattle.endless.specs.Graph.{edges}
 use Rattle.endless.specs.Weights.{occurs, kinds}
 use Rattle.endless.specs.declared.desk.Desk.{Desk}
 use Rattle.endless.specs.Levels.{Room}
-use Rattle.endless.specs.Layout.{width, LentIsEnough, LaidOut, Fresh}
+use Rattle.endless.specs.Layout.{width, lent_for, LentIsEnough, LaidOut, Fresh}
+use Rattle.endless.specs.View.{words_of, Playable}
 use Rattle.endless.specs.declared.layout.Layout.{Layout}
 use Rattle.endless.proofs.Places.{ok_size, weight_below}
 use Rattle.endless.proofs.Sets.{whole_in, whole_place}
@@ -33,12 +34,12 @@ module _ (g : Game) (own : List ℕ) (are : (j : ℕ) → members own j ≡ ltb 
   filled_subgame r = subgame_as (whole g) (members own) whole_filled filled_whole (whole_subgame r)
 
 -- the graph that is laid out is the game
-pub laid_reads : {s : List ℕ} {lent : ℕ} {g : Game} (r : Layout) → Reads s g → LaidOut lent g r → Reads s r.graph
-laid_reads {s} r reads laid = subst (Reads s) (sym laid.is) reads
+pub laid_graph : {lent : ℕ} {g : Game} (r : Layout) → LaidOut lent g r → LaidOut lent r.graph r
+laid_graph {lent} r laid = subst (λ (h : Game). LaidOut lent h r) (sym laid.is) laid
 
 -- what is laid out is enough to begin with
-pub laid_fresh : {s : List ℕ} {lent : ℕ} {g : Game} (r : Layout) (desk : Desk) → Reads s g → LaidOut lent g r → 2 * length g ≤ length desk.out.now → desk.queue.now ≡ r.queue.now → desk.escapes.now ≡ r.escapes.now → Fresh g r.all.now desk
-laid_fresh {s} {g} r desk reads laid answers q e =
+pub laid_fresh : {lent : ℕ} {g : Game} (r : Layout) (desk : Desk) → Playable g → LaidOut lent g r → 2 * length g ≤ length desk.out.now → desk.queue.now ≡ r.queue.now → desk.escapes.now ≡ r.escapes.now → Fresh g r.all.now desk
+laid_fresh {g} r desk reads laid answers q e =
     let most = (ok_size _ g reads).1 in
     let w : 32 * width (length g) ≤ length g + 31 = omega arith in
     record {
@@ -50,8 +51,8 @@ laid_fresh {s} {g} r desk reads laid answers q e =
     }
 
 -- and the first level has its room
-pub first_room : {s : List ℕ} {lent : ℕ} {g : Game} (r : Layout) (sets : List ℕ) (desk : Desk) → Reads s g → LaidOut lent g r → 2 * length g ≤ length desk.out.now → desk.queue.now ≡ r.queue.now → desk.escapes.now ≡ r.escapes.now → length sets ≡ kinds g * length r.all.now → Room g 256 r.all.now sets desk
-first_room {s} {g} r sets desk reads laid answers q e long =
+pub first_room : {lent : ℕ} {g : Game} (r : Layout) (sets : List ℕ) (desk : Desk) → Playable g → LaidOut lent g r → 2 * length g ≤ length desk.out.now → desk.queue.now ≡ r.queue.now → desk.escapes.now ≡ r.escapes.now → length sets ≡ kinds g * length r.all.now → Room g 256 r.all.now sets desk
+first_room {g} r sets desk reads laid answers q e long =
     let f = laid_fresh r desk reads laid answers q e in
     record {
       subgame = filled_subgame g r.all.now laid.are reads;
@@ -70,8 +71,8 @@ lent_is_enough s g r =
     let kinds-most : kinds g + 1 ≤ 257 = omega (arith, count_le (occurs g) 256) in
     let wide = mul-le-mul_right (width n) kinds-most in
     let w : 32 * width n ≤ n + 31 = omega arith in
-    omega (arith, wide, words_length s g r)
+    omega (arith, wide, ap length r.is, words_length g)
 
 -- and so in parts: the set of all places, and behind it one for each level
-pub sets_fit : (s : List ℕ) (g : Game) → Reads s g → ((length g + length g) + ((length g + 1) + (length g + 1) + edges g)) + ((length g + length g) + (width (length g) + kinds g * width (length g))) ≤ 65536 + 4 * length s
-sets_fit s g r = omega (arith, lent_is_enough s g r, add-mul (kinds g) 1 (width (length g)))
+pub sets_fit : (g : Game) → Playable g → ((length g + length g) + ((length g + 1) + (length g + 1) + edges g)) + ((length g + length g) + (width (length g) + kinds g * width (length g))) ≤ lent_for g
+sets_fit g r = omega (arith, lent_is_enough (words_of g) g r, add-mul (kinds g) 1 (width (length g)))

@@ -5,6 +5,7 @@ use Rattle.std.proofs.lemmas.List.{drop_all, get_or-take, get_or-drop, length-ap
 use Rattle.std.proofs.lemmas.Bool.{cases_eq}
 use Rattle.endless.specs.Games.{Place, Game, Reads, row}
 use Rattle.endless.specs.Graph.{moves, times, entering, edges, sources, upto, Listed, Filling, Room, Counts, Entered, Ready}
+use Rattle.endless.specs.View.{words_of}
 use Rattle.endless.proofs.Places.{ok_size}
 use Rattle.endless.proofs.Escapes.{move_inside}
 use Rattle.endless.proofs.Sources.{entering_le, entering_past, entering_drop, entering_drop_le, upto_entering, upto_suc, sources_drop, sources_length}
@@ -14,8 +15,8 @@ row_length : (g : List Place) → length (row g) ≡ 3 * length g + edges g
 row_length [] = refl
 row_length (p ∷ ps) = omega (arith, length-append p.moves (row ps), row_length ps)
 
-pub words_length : (s : List ℕ) (g : Game) → Reads s g → length s ≡ 1 + 3 * length g + edges g
-words_length s g reads = let e : length s ≡ suc (length (row g)) = ap length reads.is in omega (arith, row_length g)
+pub words_length : (g : Game) → length (words_of g) ≡ 1 + 3 * length g + edges g
+words_length g = omega (arith, row_length g)
 
 -- ---- the moves of the first v places counted
 

@@ -2,8 +2,9 @@
 use Rattle.std.proofs.Common.{◌≡◌, ℕ, zero, suc, ◌+◌, ◌<◌, ◌≤◌, Bool, true, false, ◌&&◌, T, List, [], ◌∷◌, ◌++◌, length, get_or, drop, sym, refl, ap, ◌∙◌, add-one, arith}
 use mathlib.Core.Option.{some}
 use Rattle.std.proofs.lemmas.List.{drop-drop, drop_at, length-drop, length-append}
-use Rattle.endless.specs.Games.{Place, Game, Reads, nth, opt, row, whose, weight}
+use Rattle.endless.specs.Games.{Place, Game, nth, opt, row, whose, weight}
 use Rattle.endless.specs.Graph.{moves, Reading}
+use Rattle.endless.specs.View.{words_of}
 
 -- ---- the parts of a conjunction
 
@@ -23,19 +24,10 @@ there [] i h = absurd (omega arith)
 there (p ∷ ps) zero h = record { p = p; is = refl; rest = refl }
 there (p ∷ ps) (suc i) h = let t = there ps i (omega arith) in record { p = t.p; is = t.is; rest = t.rest }
 
--- ---- a game that is read
-
-module _ (s : List ℕ) (g : Game) (reads : Reads s g) where
-  pub places_are : get_or s 0 0 ≡ length g
-  places_are = ap (λ l. get_or l 0 0) reads.is
-
-  words_some : 0 < length s
-  words_some = let e : length s ≡ suc (length (row g)) = ap length reads.is in omega arith
-
 -- ---- i places read, up to the word at `at`
 
-pub reading_start : (s : List ℕ) (g : Game) → Reads s g → Reading s g 0 1
-reading_start s g reads = record { left = ap (drop 1) reads.is; bound = words_some s g reads }
+pub reading_start : (g : Game) → Reading (words_of g) g 0 1
+reading_start g = record { left = refl; bound = omega arith }
 
 pub reading_next : (s : List ℕ) (g : Game) (i at : ℕ) → i < length g → Reading s g i at → Reading s g (i + 1) (at + (3 + length (moves g i)))
 reading_next s g i at h r = build (there g i h)

@@ -14,6 +14,7 @@ use Rattle.endless.specs.Promises.{SolvedPost}
 use Rattle.endless.proofs.Sets.{whole_in}
 use Rattle.endless.proofs.Steps.{solves_wins}
 use Rattle.endless.proofs.Only.{only_answer}
+use Rattle.endless.proofs.Unique.{one_game}
 use Rattle.endless.proofs.Theorems.{parts, further}
 
 -- the words cannot be worked on, or the answer has no room
@@ -35,14 +36,18 @@ behind_same o o' k long same = ext_get_or 0 (drop (2 * k) o') (drop (2 * k) o) (
     word j h (inl e) = let d : 2 * (j / 2) ≡ j = omega arith in subst (λ (m : ℕ). get_or o' m 0 ≡ get_or o m 0) d (same (j / 2) (omega arith)).0
     word j h (inr e) = let d : 2 * (j / 2) + 1 ≡ j = omega arith in subst (λ (m : ℕ). get_or o' m 0 ≡ get_or o m 0) d (same (j / 2) (omega arith)).1
 
-pub done_post : (s : List ℕ) (w : ℕ) (o o' : List ℕ) (g : Game) → 65536 + 4 * length s ≤ w → Reads s g → 2 * length g ≤ length o → length o' ≡ length o → ((n : ℕ) → length g ≤ n → Unchanged o o' n) → ((g : Game) → Reads s g → Solves g (whole g) (side o') (goes o')) → SolvedPost s w o o' (Ok tt)
-done_post s w o o' g h r room long frame solves = record {
-  says = (g, r, room, two g r, solves_wins r (solves g r) 0 (omega arith), solves_wins r (solves g r) 1 (omega arith), behind_same o o' (length g) long frame);
+pub done_post : (s : List ℕ) (w : ℕ) (o o' : List ℕ) (g : Game) → 65536 + 4 * length s ≤ w → Reads s g → 2 * length g ≤ length o → length o' ≡ length o → ((n : ℕ) → length g ≤ n → Unchanged o o' n) → Solves g (whole g) (side o') (goes o') → SolvedPost s w o o' (Ok tt)
+done_post s w o o' g h r room long frame solved = record {
+  says = (g, r, room, two g r, solves_wins r solved 0 (omega arith), solves_wins r solved 1 (omega arith), behind_same o o' (length g) long frame);
   parts = parts;
   few = (λ x. absurd (omega arith), λ e. cc);
   only = λ e g v plan won n r l wins. only_answer s g (side o') (goes o') (goes o') v plan won n r (two g r) (solves_wins r (solves g r) 0 (omega arith)) (solves_wins r (solves g r) 1 (omega arith)) l wins;
   further = further;
 }
   where
+    -- whatever game the words read as, it is this one
+    solves : (h : Game) → Reads s h → Solves h (whole h) (side o') (goes o')
+    solves h q = subst (λ (g : Game). Solves g (whole g) (side o') (goes o')) (one_game s g h r q) solved
+
     two : (g : Game) → Reads s g → (n : ℕ) → n < length g → side o' n < 2
     two g r n l = (solves g r).one_of_two n (whole_in g n l)

@@ -2,10 +2,11 @@
 use Rattle.std.proofs.Common.{◌≡◌, ℕ, zero, suc, ◌+◌, ◌^◌, ◌<◌, ◌≤◌, eqb, ltb, ◌⊎◌, List, [], ◌∷◌, length, get_or, drop, set, map, replicate, sym, refl, ap, ◌∙◌, inl, inr, add-one, arith}
 use Rattle.std.proofs.lemmas.List.{get_or-set_same, get_or-set_other, length-set, length-replicate, length-map, length-drop}
 use Rattle.std.proofs.lemmas.Bool.{cases_eq, eq-eqb, ne_eqb}
-use Rattle.endless.specs.Games.{Game, Reads, weight}
+use Rattle.endless.specs.Games.{Game, weight}
 use Rattle.endless.specs.Bits.{count}
 use Rattle.endless.specs.Weights.{weighing, occurs, kinds}
 use Rattle.endless.specs.Heads.{head_of}
+use Rattle.endless.specs.View.{Playable}
 use Rattle.endless.specs.declared.place.HeadWords.{HeadWords}
 use Rattle.endless.proofs.Places.{ok_size, weight_below}
 use Rattle.endless.proofs.Heads.{Turn, turn}
@@ -44,31 +45,28 @@ module _ (g : Game) (i : ℕ) (counts : List ℕ) (t : Tallied g i counts) where
           let none : one_if (eqb (weight g i) k) ≡ 0 = ap one_if (ne_eqb (weight g i) k (λ e. d (omega arith))) in
           get_or-set_other counts w k (get_or counts w 0 + 1) 0 d ∙ (omega (arith, step k, t.are k))
 
--- the same over the words, for every game that reads as them: these heads are still to come
-abbrev pub Weighed : List ℕ → List HeadWords → List ℕ → Type 0
-Weighed s heads counts = (g : Game) → Reads s g → (i : ℕ) × (i ≤ length g) × (heads ≡ map head_of (drop i g)) × Tallied g i counts
+-- the same over the heads: these are still to come
+abbrev pub Weighed : Game → List HeadWords → List ℕ → Type 0
+Weighed g heads counts = (i : ℕ) × (i ≤ length g) × (heads ≡ map head_of (drop i g)) × Tallied g i counts
 
-pub weighed_start : (s : List ℕ) (heads : List HeadWords) → ((g : Game) → Reads s g → heads ≡ map head_of g) → Weighed s heads (replicate 256 0)
-weighed_start s heads are g reads = (0, omega arith, are g reads, tallied_start g)
+pub weighed_start : (g : Game) (heads : List HeadWords) → heads ≡ map head_of g → Weighed g heads (replicate 256 0)
+weighed_start g heads are = (0, omega arith, are, tallied_start g)
 
-module _ (s : List ℕ) (heads : List HeadWords) (counts : List ℕ) (inv : Weighed s heads counts) (head : HeadWords) (rest : List HeadWords) (is : heads ≡ head ∷ rest) where
-  here : (g : Game) (reads : Reads s g) → Turn g (inv g reads).0 head rest
-  here g reads = turn g (inv g reads).0 head rest (sym (inv g reads).2 ∙ is)
+module _ (g : Game) (heads : List HeadWords) (counts : List ℕ) (inv : Weighed g heads counts) (head : HeadWords) (rest : List HeadWords) (is : heads ≡ head ∷ rest) where
+  here : Turn g inv.0 head rest
+  here = turn g inv.0 head rest (sym inv.2 ∙ is)
 
-  pub weighed_index : (g : Game) → Reads s g → head.weight < 256
-  weighed_index g reads = omega (arith, (here g reads).weighs, weight_below reads (inv g reads).0)
+  pub weighed_index : Playable g → head.weight < 256
+  weighed_index reads = omega (arith, here.weighs, weight_below reads inv.0)
 
-  pub weighed_fits : (g : Game) → Reads s g → get_or counts head.weight 0 + 1 < 2 ^ 32
-  weighed_fits g reads = omega (arith, tallied_le g (inv g reads).0 counts (inv g reads).3 head.weight, (here g reads).below, (ok_size s g reads).1)
+  pub weighed_fits : Playable g → get_or counts head.weight 0 + 1 < 2 ^ 32
+  weighed_fits reads = omega (arith, tallied_le g inv.0 counts inv.3 head.weight, here.below, (ok_size _ g reads).1)
 
-  pub weighed_more : Weighed s rest (set counts head.weight (get_or counts head.weight 0 + 1))
-  weighed_more g reads =
-      let t = here g reads in
-      ((inv g reads).0 + 1, omega (arith, t.below), t.others, tallied_more g (inv g reads).0 counts (inv g reads).3 head.weight (weighed_index g reads) t.weighs)
+  pub weighed_more : Playable g → Weighed g rest (set counts head.weight (get_or counts head.weight 0 + 1))
+  weighed_more reads = (inv.0 + 1, omega (arith, here.below), here.others, tallied_more g inv.0 counts inv.3 head.weight (weighed_index reads) here.weighs)
 
-pub weighed_all : (s : List ℕ) (counts : List ℕ) → Weighed s [] counts → (g : Game) → Reads s g → (k : ℕ) → get_or counts k 0 ≡ weighing g k
-weighed_all s counts inv g reads k =
-    let t = inv g reads in
+pub weighed_all : (g : Game) (counts : List ℕ) → Weighed g [] counts → (k : ℕ) → get_or counts k 0 ≡ weighing g k
+weighed_all g counts t k =
     let all : t.0 ≡ length g = omega (arith, t.1, ap length t.2, length-map (drop t.0 g) head_of, length-drop t.0 g) in
     t.3.are k ∙ ap (count (λ n. eqb (weight g n) k)) all
 

@@ -1,6 +1,7 @@
 -- A game in words as a graph: where each place's words start, and which places may move to a place.
 use Rattle.std.specs.Prelude.{◌≡◌, ℕ, zero, suc, ◌+◌, ◌-◌, ◌*◌, ◌^◌, ◌<◌, ◌≤◌, cond, ◌↔◌, List, [], ◌∷◌, ◌++◌, map, length, take, drop, replicate, ◌==◌, slice_index, slice_index_or}
-use Rattle.endless.specs.Games.{Place, Game, Reads, Among, May, nth, opt, row}
+use Rattle.endless.specs.Games.{Place, Game, Among, May, nth, opt, row}
+use Rattle.endless.specs.View.{words_of}
 
 -- numbers that may take 64 bits, each in two words, the low one first
 abbrev pub joined : List ℕ → ℕ
@@ -18,11 +19,10 @@ pub record Reading (s : List ℕ) (g : Game) (i at : ℕ) : Type 0 where
   pub left : drop at s ≡ row (drop i g)
   pub bound : at ≤ length s
 
--- for each place where its words start
-pub record Placed (s : List ℕ) (g : Game) (starts : List ℕ) : Type 0 where
-  pub reads : Reads s g
+-- for each place where its words start, in the words of the game
+pub record Placed (g : Game) (starts : List ℕ) : Type 0 where
   pub long : length starts ≡ length g
-  pub at : (i : ℕ) → i < length g → Reading s g i (slice_index starts i)
+  pub at : (i : ℕ) → i < length g → Reading (words_of g) g i (slice_index starts i)
 
 -- how often m stands in a list
 abbrev pub times : ℕ → List ℕ → ℕ

@@ -2,6 +2,7 @@
 use Rattle.std.specs.Prelude.{◌≡◌, ℕ, ◌+◌, ◌*◌, ◌/◌, ◌^◌, ◌<◌, ◌≤◌, List, length, nat_lt, Ok, Err, Result}
 use Rattle.endless.specs.Games.{Game, Reads, weight}
 use Rattle.endless.specs.Graph.{edges}
+use Rattle.endless.specs.View.{words_of}
 use Rattle.endless.specs.Bits.{members, size}
 use Rattle.endless.specs.Weights.{kinds}
 use Rattle.endless.specs.Pulling.{Sized}
@@ -20,6 +21,10 @@ width n = (n + 31) / 32
 abbrev pub needed : ℕ → ℕ → ℕ → ℕ
 needed n m d = ((n + n) + ((n + 1) + (n + 1) + m)) + ((n + n) + (d + 1) * width n)
 
+-- how many words have to be lent for a game: 65,536, and 4 for each of its words
+abbrev pub lent_for : Game → ℕ
+lent_for g = 65536 + 4 * length (words_of g)
+
 -- what has to be lent is enough for every game
 abbrev pub LentIsEnough : Type 0
 LentIsEnough = (s : List ℕ) (g : Game) → Reads s g → needed (length g) (edges g) (kinds g) ≤ 65536 + 4 * length s
@@ -33,9 +38,9 @@ abbrev pub OutRoomIs : ℕ → ℕ → Result (Unit {0}) Short → Type 0
 OutRoomIs n given (Ok u) = 2 * n ≤ given
 OutRoomIs n given (Err e) = (e.needed ≡ 2 * n) × (e.given ≡ given) × (given < 2 * n)
 
--- whether words can be worked on: enough are lent, and they are a game
-abbrev pub Accepts : List ℕ → ℕ → Result (Unit {0}) Refusal → Type 0
-Accepts s lent (Ok u) = (65536 + 4 * length s ≤ lent) × ((g : Game) × Reads s g)
+-- the game that words are, where they can be worked on: enough are lent, and they are a game
+abbrev pub Accepts : List ℕ → ℕ → Result Game Refusal → Type 0
+Accepts s lent (Ok g) = (65536 + 4 * length s ≤ lent) × Reads s g
 Accepts s lent (Err Few) = lent < 65536 + 4 * length s
 Accepts s lent (Err NoGame) = (65536 + 4 * length s ≤ lent) × ((g : Game) → Reads s g → ⊥)
 Accepts s lent (Err NoPlace) = ⊥

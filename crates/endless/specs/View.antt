@@ -15,6 +15,10 @@ unfoldable pub game_in : List ℕ → Game
 game_in [] = []
 game_in (n ∷ s) = places_in n s
 
+-- the words of a game
+abbrev pub words_of : Game → List ℕ
+words_of g = length g ∷ row g
+
 -- some words read as the game
 abbrev pub Playable : Game → Type 0
-Playable g = Reads (length g ∷ row g) g
+Playable g = Reads (words_of g) g

@@ -1,13 +1,14 @@
 //! A game in words as a graph: where each place's words start, and which places may move to a place.
 ghost use Rattle.std.specs.Prelude.{◌≡◌, ℕ, suc, ◌+◌, ◌^◌, ◌<◌, ◌≤◌, List, ◌∷◌, length, drop, ◌==◌, slice_index};
-ghost use Rattle.endless.specs.Games.{Place, Game, Reads, row, whose, weight};
+ghost use Rattle.endless.specs.Games.{Place, row, whose, weight};
 ghost use Rattle.endless.specs.Graph.{positions, moves, Placed, Preds, times, upto, Filling, Room, Counts, Entered, entering, edges, Ready, Listed};
 ghost use Rattle.endless.specs.Sides.{number};
 ghost use Rattle.endless.specs.View.{Playable};
 
-use crate::place::{Head, HeadWords, heads_of};
+use crate::place::{Head, HeadWords};
 use crate::positions::{Halves, halves, position};
 use crate::side::Side;
+use crate::words::GameWords;
 use std::marker::Model;
 
 /// The moves of the place that these words begin with.
@@ -19,15 +20,14 @@ fn first_moves(words: &[u32]) -> &[u32]
 }
 
 /// Writes down where each place's words start.
-pub fn find_starts(words: &[u32], starts: &mut [Halves])
-    requires game { (g : Game) × Reads words.now g }
-    requires starts { length starts.old ≡ slice_index words.now 0 }
-    ensures { (g : Game) → Reads words.now g → Placed words.now g (positions starts.new) }
+pub fn find_starts(game: &GameWords, starts: &mut [Halves])
+    requires { length starts.old ≡ length game.now }
+    ensures { Placed game.now (positions starts.new) }
 {
     let mut at = 1;
     // By number: tried `zip`, and that `at` fits was not shown without an
     // invariant, which is said by this number.
-    for (i, head) in heads_of(words).enumerate() {
+    for (i, head) in game.heads().enumerate() {
         starts[i] = halves(at);
         at += 3 + head.moves as usize;
     }
@@ -36,33 +36,29 @@ pub fn find_starts(words: &[u32], starts: &mut [Halves])
 /// The places of a game: its words, and where each place's words start. In contracts it is the game.
 #[derive(Drop)]
 pub struct Places<'a> {
-    words: &'a [u32],
+    game: GameWords<'a>,
     starts: &'a [Halves],
 }
 
 impl<'a> Model for Places<'a> {
     ghost use Rattle.endless.specs.Games.{Game};
     ghost use Rattle.endless.specs.Graph.{positions, Placed};
-    ghost use Rattle.endless.specs.View.{game_in};
 
     ghost Value = { Game };
 
-    // The game alone, without the fact that words hold it: each call that needs
-    // this fact tells it or asks for it (`Playable`).
-    ghost view = { λ p. game_in p.words.now };
+    ghost view = { λ p. p.game };
 
-    ghost invariant = { λ p. Placed p.words.now (game_in p.words.now) (positions p.starts.now) };
+    ghost invariant = { λ p. Placed p.game (positions p.starts.now) };
 }
 
 impl<'a> Places<'a> {
-    /// The places of the game that reads as these words; `starts` is lent for where each place's words start.
-    pub fn new(words: &'a [u32], starts: &'a mut [Halves]) -> Places<'a>
-        requires game { (g : Game) × Reads words.now g }
-        requires starts { length starts.old ≡ slice_index words.now 0 }
-        ensures { (g : Game) → Reads words.now g → result ≡ g }
+    /// The places of this game; `starts` is lent for where each place's words start.
+    pub fn new(game: GameWords<'a>, starts: &'a mut [Halves]) -> Places<'a>
+        requires { length starts.old ≡ length game }
+        ensures { result ≡ game.entry }
     {
-        find_starts(words, starts);
-        Places { words, starts }
+        find_starts(&game, starts);
+        Places { game, starts }
     }
 
     /// How many places there are.
@@ -70,7 +66,7 @@ impl<'a> Places<'a> {
         ensures len { result ≡ length self.now }
         ensures playable { Playable self.now }
     {
-        self.words[0]
+        self.game.len()
     }
 
     /// Whose move it is at a place, its weight, and how many moves it has.
@@ -129,7 +125,7 @@ impl<'a> Places<'a> {
         ensures playable { Playable self.now }
     {
         let at = position(self.starts[n as usize]);
-        &self.words[at..]
+        self.game.words_from(at)
     }
 }
 

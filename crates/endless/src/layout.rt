@@ -1,18 +1,17 @@
 //! The lent words, cut into the parts that the solver works in.
 ghost use Rattle.std.specs.Prelude.{◌≡◌, ℕ, ◌+◌, ◌*◌, ◌<◌, ◌≤◌, length, nat_le};
-ghost use Rattle.endless.specs.Games.{Game, Reads};
 ghost use Rattle.endless.specs.Says.{side, goes};
 ghost use Rattle.endless.specs.Sets.{whole};
 ghost use Rattle.endless.specs.Subgames.{Solves};
 ghost use Rattle.endless.specs.Pulling.{Unchanged};
-ghost use Rattle.endless.specs.Layout.{Accepts, OutRoomIs, LaidOut};
+ghost use Rattle.endless.specs.Layout.{lent_for, Accepts, OutRoomIs, LaidOut};
 
 use crate::by_parts::level_by_parts;
 use crate::desk::Desk;
 use crate::graph::{Graph, Places};
 use crate::order::Effort;
 use crate::refusal::Refusal;
-use crate::words::is_game;
+use crate::words::GameWords;
 use crate::{bits, weights};
 
 /// Whether 65,536 words and 4 for each word of the game are lent.
@@ -22,17 +21,15 @@ pub fn is_enough(words: usize, lent: usize) -> bool
     lent >= 65536 && (lent - 65536) / 4 >= words
 }
 
-/// Whether these words can be worked on: enough are lent, and they are a game.
-pub fn accept(words: &[u32], lent: usize) -> Result<(), Refusal>
+/// These words as a game, if they can be worked on: enough are lent, and they
+/// are a game.
+pub fn accept(words: &[u32], lent: usize) -> Result<GameWords<'_>, Refusal>
     ensures { Accepts words.now lent result }
 {
     if !is_enough(words.len(), lent) {
         return Err(Refusal::Few);
     }
-    if !is_game(words) {
-        return Err(Refusal::NoGame);
-    }
-    Ok(())
+    GameWords::read(words).ok_or(Refusal::NoGame)
 }
 
 /// An answer has no room: how many words it takes, and how many there are.
@@ -65,15 +62,16 @@ pub struct Layout<'a> {
 }
 
 /// Cuts the lent words for a game, and makes its graph there.
-pub fn lay_out<'a>(words: &'a [u32], work: &'a mut [u32]) -> Layout<'a>
-    requires { (g : Game) × Reads words.now g × (65536 + 4 * length words.now ≤ length work.old) }
-    ensures { (g : Game) → Reads words.now g → LaidOut (length work.old) g result }
+#[tactic(auto, using(crate::proofs::Layouts::sets_fit))]
+pub fn lay_out<'a>(game: GameWords<'a>, work: &'a mut [u32]) -> Layout<'a>
+    requires { lent_for game ≤ length work.old }
+    ensures { LaidOut (length work.old) game.entry result }
 {
-    let places = words[0] as usize;
-    let moves = words.len() - 1 - 3 * places;
+    let places = game.len() as usize;
+    let moves = game.move_count();
     let (starts, work) = work.split_at_mut(2 * places);
     let (starts, _) = starts.as_chunks_mut::<2>();
-    let view = Places::new(words, starts);
+    let view = Places::new(game, starts);
     let (offsets, work) = work.split_at_mut(2 * (places + 1));
     let (preds, work) = work.split_at_mut(moves);
     let (offsets, _) = offsets.as_chunks_mut::<2>();
@@ -81,7 +79,7 @@ pub fn lay_out<'a>(words: &'a [u32], work: &'a mut [u32]) -> Layout<'a>
     let (queue, work) = work.split_at_mut(places);
     let (escapes, work) = work.split_at_mut(places);
     let (all, rest) = work.split_at_mut(places.div_ceil(32));
-    bits::fill(all, words[0]);
+    bits::fill(all, graph.len());
     Layout {
         graph,
         queue,
@@ -93,20 +91,23 @@ pub fn lay_out<'a>(words: &'a [u32], work: &'a mut [u32]) -> Layout<'a>
 
 /// Solves a game: lays it out, with a set for each level, and goes through
 /// these.
-pub(crate) fn solve_game<'a>(words: &'a [u32], out: &mut [u32], work: &'a mut [u32])
-    requires { (g : Game) × Reads words.now g × (2 * length g ≤ length out.old) × (65536 + 4 * length words.now ≤ length work.old) }
-    ensures frame { (g : Game) → Reads words.now g → (n : ℕ) → length g ≤ n → Unchanged out.old out.new n }
-    ensures solves { (g : Game) → Reads words.now g → Solves g (whole g) (side out.new) (goes out.new) }
+pub(crate) fn solve_game<'a>(game: GameWords<'a>, out: &mut [u32], work: &'a mut [u32])
+    requires out { 2 * length game ≤ length out.old }
+    requires lent { lent_for game ≤ length work.old }
+    ensures frame { (n : ℕ) → length game.entry ≤ n → Unchanged out.old out.new n }
+    ensures solves { Solves game.entry (whole game.entry) (side out.new) (goes out.new) }
 {
+    let levels = weights::levels(&game);
     let Layout {
         graph,
         queue,
         escapes,
         all,
         rest,
-    } = lay_out(words, work);
-    let (sets, spare) = rest.split_at_mut(weights::levels(words) * all.len());
-    let mut effort = Effort::new(words[0]);
+    } = lay_out(game, work);
+    let (sets, spare) = rest.split_at_mut(levels * all.len());
+    let places = graph.len();
+    let mut effort = Effort::new(places);
     let mut desk = Desk {
         out,
         queue,
@@ -115,7 +116,7 @@ pub(crate) fn solve_game<'a>(words: &'a [u32], out: &mut [u32], work: &'a mut [u
     level_by_parts(
         &graph,
         256,
-        words[0] as usize,
+        places as usize,
         all,
         None,
         sets,

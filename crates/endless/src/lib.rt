@@ -51,8 +51,8 @@ pub use words::is_game;
 pub fn solve(words: &[u32], out: &mut [u32], work: &mut [u32]) -> Result<(), Refusal>
     ensures { SolvedPost words.now (length work.old) out.old out.new result }
 {
-    layout::accept(words, work.len())?;
-    layout::out_room(words[0], out.len())?;
-    layout::solve_game(words, out, work);
+    let game = layout::accept(words, work.len())?;
+    layout::out_room(game.len(), out.len())?;
+    layout::solve_game(game, out, work);
     Ok(())
 }

@@ -1,8 +1,7 @@
 //! A place of a game, read from its words.
-ghost use Rattle.std.specs.Prelude.{◌≡◌, ◌≤◌, length, map, slice_index};
+ghost use Rattle.std.specs.Prelude.{◌≡◌, ◌≤◌, length, slice_index};
 ghost use Rattle.std.specs.Iterator.{YieldsFirst, at_most};
-ghost use Rattle.endless.specs.Games.{Game, Reads};
-ghost use Rattle.endless.specs.Heads.{HeadIs, Rows, head_of, heads_in};
+ghost use Rattle.endless.specs.Heads.{HeadIs, Rows, heads_in};
 
 use crate::side::Side;
 
@@ -68,20 +67,8 @@ impl HeadWords {
 /// The heads of places whose words stand one after the other.
 #[derive(Clone, Copy)]
 pub struct Heads<'a> {
-    left: u32,
-    words: &'a [u32],
-}
-
-/// Goes through the heads of the places of the game that these words are.
-pub fn heads_of(words: &[u32]) -> Heads<'_>
-    requires { (g : Game) × Reads words.now g }
-    ensures rows { Rows result.left result.words.now }
-    ensures are { (g : Game) → Reads words.now g → heads_in result.left result.words.now ≡ map head_of g }
-{
-    Heads {
-        left: words[0],
-        words: &words[1..],
-    }
+    pub(crate) left: u32,
+    pub(crate) words: &'a [u32],
 }
 
 impl<'a> Iterator for Heads<'a> {

@@ -1,6 +1,5 @@
 //! From where a side can bring every play to a place.
-ghost use Rattle.std.specs.Prelude.{ℕ, ◌+◌, ◌*◌, ◌^◌, ◌<◌, ◌≤◌, length};
-ghost use Rattle.endless.specs.Games.{Game, Reads};
+ghost use Rattle.std.specs.Prelude.{ℕ, ◌*◌, ◌^◌, ◌<◌, ◌≤◌, length};
 ghost use Rattle.endless.specs.Says.{side, goes};
 ghost use Rattle.endless.specs.Sets.{In};
 ghost use Rattle.endless.specs.Sides.{number};
@@ -8,7 +7,7 @@ ghost use Rattle.endless.specs.Bits.{members};
 ghost use Rattle.endless.specs.View.{Playable};
 ghost use Rattle.endless.specs.Pulling.{Unchanged};
 ghost use Rattle.endless.specs.Desks.{SameDesk};
-ghost use Rattle.endless.specs.Layout.{Fresh};
+ghost use Rattle.endless.specs.Layout.{lent_for, Fresh};
 ghost use Rattle.endless.specs.Reaching.{Handed, Reaches, ReachPost};
 
 use crate::answer::PlaceId;
@@ -19,6 +18,7 @@ use crate::graph::Graph;
 use crate::layout::Layout;
 use crate::refusal::Refusal;
 use crate::side::Side;
+use crate::words::GameWords;
 use crate::{bits, layout};
 
 /// From where `side` can bring every play to `target`, whatever the other side
@@ -36,27 +36,29 @@ pub fn attract_to(
 ) -> Result<(), Refusal>
     ensures { ReachPost words.now (length work.old) (number side) target.0 out.old out.new result }
 {
-    layout::accept(words, work.len())?;
-    if target.0 >= words[0] {
+    let game = layout::accept(words, work.len())?;
+    if target.0 >= game.len() {
         return Err(Refusal::NoPlace);
     }
-    layout::out_room(words[0], out.len())?;
-    divide_game(words, side, target.0, out, work);
+    layout::out_room(game.len(), out.len())?;
+    divide_game(game, side, target.0, out, work);
     Ok(())
 }
 
 /// Lays a game out and divides it between the sides: `winner` can bring every
 /// play to `target` from the places given to it, and from no others.
 fn divide_game<'a>(
-    words: &'a [u32],
+    game: GameWords<'a>,
     winner: Side,
     target: u32,
     out: &mut [u32],
     work: &'a mut [u32],
 )
-    requires { (g : Game) × Reads words.now g × (target < length g) × (2 * length g ≤ length out.old) × (65536 + 4 * length words.now ≤ length work.old) }
-    ensures frame { (g : Game) → Reads words.now g → (n : ℕ) → length g ≤ n → Unchanged out.old out.new n }
-    ensures reaches { (g : Game) → Reads words.now g → Reaches g (number winner) target (side out.new) (goes out.new) }
+    requires target { target < length game }
+    requires out { 2 * length game ≤ length out.old }
+    requires lent { lent_for game ≤ length work.old }
+    ensures frame { (n : ℕ) → length game.entry ≤ n → Unchanged out.old out.new n }
+    ensures reaches { Reaches game.entry (number winner) target (side out.new) (goes out.new) }
 {
     let Layout {
         graph,
@@ -64,7 +66,7 @@ fn divide_game<'a>(
         escapes,
         all,
         ..
-    } = layout::lay_out(words, work);
+    } = layout::lay_out(game, work);
     let mut desk = Desk {
         out,
         queue,

@@ -1,12 +1,12 @@
 //! Whether an answer is right: a call that looks at it, and trusts nothing of
 //! how it was found.
-ghost use Rattle.std.specs.Prelude.{◌≡◌, ℕ, ◌+◌, ◌*◌, ◌<◌, ◌≤◌, ◌↔◌, length, MatchOption, MatchResult};
-ghost use Rattle.endless.specs.Games.{Game, Reads};
+ghost use Rattle.std.specs.Prelude.{◌≡◌, ℕ, ◌*◌, ◌<◌, ◌≤◌, ◌↔◌, length, MatchOption, MatchResult};
 ghost use Rattle.endless.specs.Says.{side as says, goes};
 ghost use Rattle.endless.specs.Sets.{In, whole};
 ghost use Rattle.endless.specs.Subgames.{Solves};
 ghost use Rattle.endless.specs.Sides.{number};
 ghost use Rattle.endless.specs.Bits.{members};
+ghost use Rattle.endless.specs.Layout.{lent_for};
 ghost use Rattle.endless.specs.Checked.{Tabled, ReasonIs, SideChecked, CheckedPost};
 ghost use Rattle.endless.specs.declared.verdict.Reason.TheVariants as reasons;
 ghost use Rattle.endless.specs.declared.verdict.Rejection.TheVariants.{Refused, Wrong};
@@ -19,6 +19,7 @@ use crate::graph::Graph;
 use crate::layout::{Layout, Short};
 use crate::refusal::Refusal;
 use crate::side::Side;
+use crate::words::GameWords;
 use crate::{bits, layout};
 
 /// Why an answer is none.
@@ -72,9 +73,9 @@ impl From<Short> for Rejection {
 pub fn check(words: &[u32], answer: &[u32], work: &mut [u32]) -> Result<(), Rejection>
     ensures { CheckedPost words.now (length work.old) answer.now result }
 {
-    layout::accept(words, work.len())?;
-    layout::out_room(words[0], answer.len())?;
-    check_game(words, answer, work)?;
+    let game = layout::accept(words, work.len())?;
+    layout::out_room(game.len(), answer.len())?;
+    check_game(game, answer, work)?;
     Ok(())
 }
 
@@ -145,11 +146,13 @@ impl Checking<'_> {
 }
 
 /// Whether an answer with two words for each place is one, or why not.
-fn check_game<'a>(words: &'a [u32], answer: &'a [u32], work: &'a mut [u32]) -> Result<(), Reason>
-    requires { (g : Game) × Reads words.now g × (2 * length g ≤ length answer.now) × (65536 + 4 * length words.now ≤ length work.old) }
-    ensures { (g : Game) → Reads words.now g → MatchResult result (λ _. Solves g (whole g) (says answer.now) (goes answer.now)) (λ reason. ReasonIs g answer.now reason) }
+fn check_game<'a>(game: GameWords<'a>, answer: &'a [u32], work: &'a mut [u32]) -> Result<(), Reason>
+    requires answer { 2 * length game ≤ length answer.now }
+    requires lent { lent_for game ≤ length work.old }
+    ensures { MatchResult result (λ _. Solves game.entry (whole game.entry) (says answer.now) (goes answer.now)) (λ reason. ReasonIs game.entry answer.now reason) }
 {
-    if let Some(place) = first_sideless(answer, words[0]) {
+    let places = game.len();
+    if let Some(place) = first_sideless(answer, places) {
         return Err(Reason::NoSide(PlaceId(place)));
     }
     let Layout {
@@ -158,10 +161,10 @@ fn check_game<'a>(words: &'a [u32], answer: &'a [u32], work: &'a mut [u32]) -> R
         all,
         rest,
         ..
-    } = layout::lay_out(words, work);
+    } = layout::lay_out(game, work);
     let (set, rest) = rest.split_at_mut(all.len());
     let (left, rest) = rest.split_at_mut(all.len());
-    let (queue, lent) = rest.split_at_mut(words[0] as usize + 1);
+    let (queue, lent) = rest.split_at_mut(places as usize + 1);
     let mut checking = Checking {
         graph,
         answer,

@@ -1,10 +1,9 @@
 //! How many places have each weight.
 ghost use Rattle.std.specs.Prelude.{◌≡◌, ℕ, length, nat_lt, slice_index};
-ghost use Rattle.endless.specs.Games.{Game, Reads};
 ghost use Rattle.endless.specs.Bits.{count};
 ghost use Rattle.endless.specs.Weights.{weighing, kinds};
 
-use crate::place;
+use crate::words::GameWords;
 
 // Each crate has this number of its own, as `drawing` and `pgsolver` read texts
 // and take no more from here than a `Side`.
@@ -13,12 +12,11 @@ pub const WEIGHTS: usize = 256;
 
 // An array, and no type as `playing::Counts`: it is read once, and never changed.
 /// For each weight how many places have it.
-pub fn tally(words: &[u32]) -> [u32; WEIGHTS]
-    requires { (g : Game) × Reads words.now g }
-    ensures { (g : Game) → Reads words.now g → (k : ℕ) → slice_index result k ≡ weighing g k }
+pub fn tally(game: &GameWords) -> [u32; WEIGHTS]
+    ensures { (k : ℕ) → slice_index result k ≡ weighing game.now k }
 {
     let mut counts = [0; WEIGHTS];
-    for head in place::heads_of(words) {
+    for head in game.heads() {
         counts[head.weight as usize] += 1;
     }
     counts
@@ -32,9 +30,8 @@ pub fn different(counts: &[u32]) -> usize
 }
 
 /// How many different weights a game has.
-pub fn levels(words: &[u32]) -> usize
-    requires { (g : Game) × Reads words.now g }
-    ensures { (g : Game) → Reads words.now g → result ≡ kinds g }
+pub fn levels(game: &GameWords) -> usize
+    ensures { result ≡ kinds game.now }
 {
-    different(&tally(words))
+    different(&tally(game))
 }

@@ -1,10 +1,14 @@
-//! Whether words are a game.
-ghost use Rattle.std.specs.Prelude.{◌≡◌};
-ghost use Rattle.endless.specs.Games.{below};
+//! Words that are a game.
+ghost use Rattle.std.specs.Prelude.{◌≡◌, ◌^◌, ◌<◌, ◌≤◌, length, map, drop, MatchOption};
+ghost use Rattle.endless.specs.Games.{Game, Reads, below};
+ghost use Rattle.endless.specs.Graph.{edges};
+ghost use Rattle.endless.specs.Heads.{Rows, head_of, heads_in};
 ghost use Rattle.endless.specs.Promises.{IsGamePost};
+ghost use Rattle.endless.specs.View.{words_of, Playable};
 ghost use Rattle.endless.specs.Words.{PlacesIs, PlaceEnds};
 
-use crate::place::Head;
+use crate::place::{Head, Heads};
+use std::marker::Model;
 
 /// The most places that a game may have.
 pub const MOST_PLACES: u32 = 16384;
@@ -20,6 +24,74 @@ pub fn is_game(words: &[u32]) -> bool
         return false;
     };
     end == words.len()
+}
+
+/// Words that are a game. In contracts they are the game.
+#[derive(Drop)]
+pub struct GameWords<'a> {
+    words: &'a [u32],
+}
+
+impl<'a> Model for GameWords<'a> {
+    ghost use Rattle.endless.specs.Games.{Game, Reads};
+    ghost use Rattle.endless.specs.View.{game_in};
+
+    ghost Value = { Game };
+
+    // The game alone, without the fact that words hold it: each call that needs
+    // this fact tells it or asks for it (`Playable`).
+    ghost view = { λ w. game_in w.words.now };
+
+    ghost invariant = { λ w. Reads w.words.now (game_in w.words.now) };
+}
+
+impl<'a> GameWords<'a> {
+    /// These words, if they are a game.
+    pub fn read(words: &'a [u32]) -> Option<GameWords<'a>>
+        ensures { MatchOption result ((g : Game) → Reads words.now g → ⊥) (λ g. Reads words.now g) }
+    {
+        if !is_game(words) {
+            return None;
+        }
+        Some(GameWords { words })
+    }
+
+    /// How many places there are.
+    pub fn len(&self) -> u32
+        ensures len { result ≡ length self.now }
+        ensures playable { Playable self.now }
+    {
+        self.words[0]
+    }
+
+    /// How many moves the places have together.
+    pub fn move_count(&self) -> usize
+        ensures { result ≡ edges self.now }
+    {
+        self.words.len() - 1 - 3 * self.len() as usize
+    }
+
+    /// Goes through the heads of the places.
+    pub fn heads(&self) -> Heads<'a>
+        ensures rows { Rows result.left result.words.now }
+        ensures are { heads_in result.left result.words.now ≡ map head_of self.now }
+        ensures playable { Playable self.now }
+        ensures short { length (words_of self.now) < 2 ^ 63 }
+    {
+        Heads {
+            left: self.len(),
+            words: &self.words[1..],
+        }
+    }
+
+    /// The words from this one on.
+    pub fn words_from(&self, at: usize) -> &'a [u32]
+        requires { at ≤ length (words_of self.now) }
+        ensures are { result.now ≡ drop at (words_of self.now) }
+        ensures playable { Playable self.now }
+    {
+        &self.words[at..]
+    }
 }
 
 /// How many places the first word says, if a game may have as many.

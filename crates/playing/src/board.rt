@@ -10,6 +10,7 @@ use endless::answer::PlaceId;
 use endless::graph::Places;
 use endless::positions::Halves;
 use endless::side::Side;
+use endless::words::GameWords;
 use endless::{Refusal, answer, is_game};
 use std::alloc::{AllocError, Global};
 use std::marker::Model;
@@ -86,13 +87,11 @@ impl<'a> Board<'a> {
         ensures game { IfSome result (λ b. Reads words.now b.game) }
         ensures answer { IfSome result (λ b. b.answer ≡ answer.now) }
     {
-        if !is_game(words) {
+        let game = GameWords::read(words)?;
+        if starts.len() != game.len() as usize {
             return None;
         }
-        if starts.len() != words[0] as usize {
-            return None;
-        }
-        let places = Places::new(words, starts);
+        let places = Places::new(game, starts);
         Some(Board { places, answer })
     }
 

@@ -5,4 +5,4 @@ use Rattle.endless.proofs.graph.find_starts.Given as goal
 
 abbrev pub invariant-loop-i : goal.invariant-loop-i
 invariant-loop-i l =
-    Starting l.words (heads_in l.i-iterator.iter.left l.i-iterator.iter.words.now) (positions l.starts) l.i-iterator.count l.at
+    Starting l.game (heads_in l.i-iterator.iter.left l.i-iterator.iter.words.now) (positions l.starts) l.i-iterator.count l.at
