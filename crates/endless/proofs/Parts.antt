@@ -9,7 +9,7 @@ use Rattle.endless.specs.Bits.{members, size, Inserted}
 use Rattle.endless.specs.Graph.{moves}
 use Rattle.endless.specs.Pulling.{Passed}
 use Rattle.endless.specs.Parts.{Listing, Told, PartTaken, Covers}
-use Rattle.endless.specs.Growing.{Grown}
+use Rattle.endless.specs.Growing.{Same, Lists, Grown, Takes}
 use Rattle.endless.specs.declared.closed.Growing.{Growing}
 use Rattle.endless.proofs.Tests.{T_true, true_T}
 use Rattle.endless.proofs.Among.{among_at}
@@ -89,15 +89,25 @@ module _ {own part queue : List ℕ} {count : ℕ} (place : ℕ) (same : length 
       listed n (inl e) = (count, omega arith, last ∙ sym e)
       listed n (inr x) = let t = k.listed n x in (t.0, omega (arith, t.1), front t.0 t.1 ∙ t.2)
 
--- how a part grows, step by step
-pub grown_none : (a : Growing) → Listing a.set.now a.part.now a.queue.now a.count → Grown a a
-grown_none a k = record { lists = k; set = refl; part = refl; queue = refl; grows = omega arith; more = λ n x. x; front = λ j h. refl }
+-- what a part is made in stays
+pub same_none : (a : Growing) → Same a a
+same_none a = record { places = refl; set = refl; part = refl; queue = refl }
 
-pub grown_then : {a b c : Growing} → Grown a b → Grown b c → Grown a c
-grown_then x y = record {
+pub same_then : {a b c : Growing} → Same a b → Same b c → Same a c
+same_then x y = record {
+  places = y.places ∙ x.places;
   set = y.set ∙ x.set;
   part = y.part ∙ x.part;
   queue = y.queue ∙ x.queue;
+}
+
+-- how a part grows, step by step
+pub grown_none : (a : Growing) → Lists a → Grown a a
+grown_none a k = record { lists = k; same = same_none a; grows = omega arith; more = λ n x. x; front = λ j h. refl }
+
+pub grown_then : {a b c : Growing} → Grown a b → Grown b c → Grown a c
+grown_then x y = record {
+  same = same_then x.same y.same;
   grows = omega (arith, x.grows, y.grows);
   more = λ n i. y.more n (x.more n i);
   lists = y.lists;
@@ -120,7 +130,7 @@ over_more {a = a} {c = c} {items = items} {i = i} {i' = i'} k is grown came = re
     holds j h x (inl e) = grown.more (get_or items j 0) (k.holds j e x)
     holds j h x (inr e) =
         let same : i ≡ j = omega arith in
-        subst (λ (n : ℕ). In (members a.set.now) (get_or items n 0) → In (members c.part.now) (get_or items n 0)) same (λ y. came (subst (λ (s : List ℕ). In (members s) (get_or items i 0)) (sym k.grown.set) y)) x
+        subst (λ (n : ℕ). In (members a.set.now) (get_or items n 0) → In (members c.part.now) (get_or items n 0)) same (λ y. came (subst (λ (s : List ℕ). In (members s) (get_or items i 0)) (sym k.grown.same.set) y)) x
 
 -- going to what can be come to: the queue is gone through up to `head`
 pub record Going (g : Game) (a b : Growing) (head : ℕ) : Type 0 where
@@ -128,7 +138,7 @@ pub record Going (g : Game) (a b : Growing) (head : ℕ) : Type 0 where
   pub order : head ≤ b.count
   pub passed : (j : ℕ) → j < head → (m : ℕ) → May g (get_or b.queue.now j 0) m → In (members b.set.now) m → In (members b.part.now) m
 
-pub going_none : {g : Game} (a : Growing) → Listing a.set.now a.part.now a.queue.now a.count → Going g a a 0
+pub going_none : {g : Game} (a : Growing) → Lists a → Going g a a 0
 going_none a k = record { grown = grown_none a k; order = omega arith; passed = λ j h m may x. absurd (omega arith) }
 
 pub going_more : {g : Game} {a b c : Growing} {head next : ℕ} {items : List ℕ} → Going g a b head → head < b.count → next ≡ head + 1 → items ≡ moves g (get_or b.queue.now head 0) → Grown b c →
@@ -136,7 +146,7 @@ pub going_more : {g : Game} {a b c : Growing} {head next : ℕ} {items : List �
 going_more {g = g} {b = b} {c = c} {head = head} {next = next} {items = items} k h is are s holds = record {
   grown = grown_then k.grown s;
   order = omega (arith, s.grows);
-  passed = λ j l m may x. passed j l m may (subst (λ (t : List ℕ). In (members t) m) s.set x) (cases_lt j head);
+  passed = λ j l m may x. passed j l m may (subst (λ (t : List ℕ). In (members t) m) s.same.set x) (cases_lt j head);
 }
   where
     passed : (j : ℕ) → j < next → (m : ℕ) → May g (get_or c.queue.now j 0) m → In (members b.set.now) m → (j < head) ⊎ (head ≤ j) → In (members c.part.now) m
@@ -147,7 +157,7 @@ going_more {g = g} {b = b} {c = c} {head = head} {next = next} {items = items} k
         subst (λ (n : ℕ). In (members c.part.now) n) t.2 (holds t.0 t.1 (subst (λ (n : ℕ). In (members b.set.now) n) (sym t.2) x))
 
 pub going_all : {g : Game} {a b : Growing} {head : ℕ} → Going g a b head → b.count ≤ head → Closed g (members a.set.now) (members b.part.now)
-going_all {g = g} {b = b} k end = subst (λ (t : List ℕ). Closed g (members t) (members b.part.now)) k.grown.set (record {
+going_all {g = g} {b = b} k end = subst (λ (t : List ℕ). Closed g (members t) (members b.part.now)) k.grown.same.set (record {
   within = k.grown.lists.inside;
   stays = λ n m x may y. let t = k.grown.lists.listed n x in k.passed t.0 (omega (arith, t.1)) m (subst (λ (i : ℕ). May g i m) (sym t.2) may) y;
 })
@@ -177,8 +187,21 @@ queued_taken {own = own} {part = part} {queue = queue} {count = count} same k so
     )
 
 -- all of a set is taken, by a list that has all of it
-pub listed_taken : {g : Game} {own part queue : List ℕ} {count : ℕ} → length part ≡ length own → Listing own part queue count → Within (members own) (members part) → PartTaken g own part queue (Some count)
-listed_taken {own = own} {part = part} same k all = queued_taken same k (λ h. omega (arith, size_sub own part (sym same) (λ j x. T_true _ (all j (true_T _ x))))) (record { within = k.inside; stays = λ n m x may y. all m y })
+pub listed_taken : {a b c : Growing} (items : List ℕ) → Same a b → Grown b c → ((k : ℕ) → k < length items → In (members b.set.now) (get_or items k 0) → In (members c.part.now) (get_or items k 0)) → Covers a.set.now items → Takes a c (Some c.count)
+listed_taken {a} {b} {c} items same grown holds covers = queued_taken long (subst (λ (own : List ℕ). Listing own c.part.now c.queue.now c.count) is grown.lists)
+    (λ h. omega (arith, size_sub a.set.now c.part.now (sym long) (λ j x. T_true _ (all j (true_T _ x)))))
+    (record { within = λ n x. subst (λ (own : List ℕ). In (members own) n) is (grown.lists.inside n x); stays = λ n m x may y. all m y })
+  where
+    is : c.set.now ≡ a.set.now
+    is = grown.same.set ∙ same.set
+
+    long : length c.part.now ≡ length a.set.now
+    long = c.spacious.same ∙ ap (λ (own : List ℕ). length own) is
+
+    all : Within (members a.set.now) (members c.part.now)
+    all n x =
+        let t = covers n x in
+        subst (λ (m : ℕ). In (members c.part.now) m) t.2 (holds t.0 t.1 (subst (λ (own : List ℕ). In (members own) (get_or items t.0 0)) (sym same.set) (subst (λ (m : ℕ). In (members a.set.now) m) (sym t.2) x)))
 
 -- all of a set is taken
 pub whole_taken : {g : Game} {own part queue : List ℕ} → part ≡ own → PartTaken g own part queue None
@@ -194,9 +217,3 @@ whole_taken {own = own} same = rw same (record {
     told = λ l e. let t : Some (length l) ≡ None = sym (ap (option_map length) e) ∙ s.long in cc;
   };
 })
-
--- all places of the set are among those gone over
-pub over_all : (own part items : List ℕ) → ((k : ℕ) → k < length items → In (members own) (get_or items k 0) → In (members part) (get_or items k 0)) → Covers own items → Within (members own) (members part)
-over_all own part items holds covers n x =
-    let t = covers n x in
-    subst (λ (m : ℕ). In (members part) m) t.2 (holds t.0 t.1 (subst (λ (m : ℕ). In (members own) m) (sym t.2) x))

@@ -1,31 +1,35 @@
 //! A closed part of a subgame: the places that can be come to from one of them.
-ghost use Rattle.std.specs.Prelude.{◌≡◌, ℕ, ◌*◌, ◌<◌, ◌≤◌, true, T, length, IfSome, slice_index};
+ghost use Rattle.std.specs.Prelude.{ℕ, ◌*◌, ◌<◌, ◌≤◌, length, Some, IfSome, slice_index};
 ghost use Rattle.std.specs.Option.{ForSome};
-ghost use Rattle.endless.specs.Sets.{In, Within};
+ghost use Rattle.endless.specs.Sets.{In};
 ghost use Rattle.endless.specs.Subgames.{Closed};
 ghost use Rattle.endless.specs.Bits.{members, size};
-ghost use Rattle.endless.specs.Parts.{Spacious, Listing, Covers, PartTaken};
+ghost use Rattle.endless.specs.Parts.{Spacious, Covers, PartTaken};
 
 use crate::bits;
 use crate::graph::Places;
 
-/// A part of a set that is being made: the places that are in it stand in the
-/// queue, `count` of them, in the order in which they came.
+/// A part of a set of places that is being made: the places that are in it
+/// stand in the queue, `count` of them, in the order in which they came. What
+/// these hold at first does not matter.
 #[derive(Drop)]
-struct Growing<'r> {
-    set: &'r [u32],
-    part: &'r mut [u32],
-    queue: &'r mut [u32],
-    count: usize,
-    ghost spacious: { Spacious set.now part.now queue.now },
+pub struct Growing<'p, 'r> {
+    pub places: &'p Places<'p>,
+    pub set: &'r [u32],
+    pub part: &'r mut [u32],
+    pub queue: &'r mut [u32],
+    pub count: usize,
+    pub ghost sets: { length places.now ≤ 32 * length set.now },
+    pub ghost inside: { (n : ℕ) → In (members set.now) n → n < length places.now },
+    pub ghost spacious: { Spacious set.now part.now queue.now },
 }
 
-impl Growing<'_> {
-    ghost use Rattle.endless.specs.Growing.{Grown};
+impl Growing<'_, '_> {
+    ghost use Rattle.endless.specs.Growing.{Same, Lists, Grown, Takes};
 
     /// Takes a place, where it is in the set and not there yet.
     fn take(&mut self, place: u32)
-        requires lists { Listing self.old.set.now self.old.part.now self.old.queue.now self.old.count }
+        requires lists { Lists self.old }
         requires inside { place < 32 * length self.old.set.now }
         ensures grown { Grown self.old self.new }
         ensures holds { In (members self.old.set.now) place → In (members self.new.part.now) place }
@@ -44,7 +48,7 @@ impl Growing<'_> {
 
     /// Takes all these places that are in the set.
     fn take_all(&mut self, places: &[u32])
-        requires lists { Listing self.old.set.now self.old.part.now self.old.queue.now self.old.count }
+        requires lists { Lists self.old }
         requires inside { (k : ℕ) → k < length places.now → slice_index places.now k < 32 * length self.old.set.now }
         ensures grown { Grown self.old self.new }
         ensures holds { (k : ℕ) → k < length places.now → In (members self.old.set.now) (slice_index places.now k) → In (members self.new.part.now) (slice_index places.now k) }
@@ -55,13 +59,12 @@ impl Growing<'_> {
     }
 
     /// Takes all that can be come to within the set from its places.
-    fn close(&mut self, places: &Places)
-        requires lists { Listing self.old.set.now self.old.part.now self.old.queue.now self.old.count }
-        requires sets { length places.now ≤ 32 * length self.old.set.now }
-        requires places { (n : ℕ) → In (members self.old.set.now) n → n < length places.now }
+    fn close(&mut self)
+        requires lists { Lists self.old }
         ensures grown { Grown self.old self.new }
-        ensures closed { Closed places.now (members self.old.set.now) (members self.new.part.now) }
+        ensures closed { Closed self.old.places.now (members self.old.set.now) (members self.new.part.now) }
     {
+        let places = self.places;
         let mut head = 0;
         // The queue grows on the way, so that no iterator can borrow it; it is lent
         // words, as this crate has no heap.
@@ -71,105 +74,62 @@ impl Growing<'_> {
             self.take_all(places.moves(from));
         }
     }
-}
 
-/// Makes `part` all places of the set that can be come to from `start` within
-/// it, and lists them in the queue. How many there are.
-pub fn reach(places: &Places, start: u32, set: &[u32], part: &mut [u32], queue: &mut [u32]) -> usize
-    requires sets { length places.now ≤ 32 * length set.now }
-    requires places { (n : ℕ) → In (members set.now) n → n < length places.now }
-    requires first { In (members set.now) start }
-    requires spacious { Spacious set.now part.old queue.old }
-    ensures lists { Listing set.now part.new queue.new result }
-    ensures few { result ≤ size set.now }
-    ensures holds { In (members part.new) start }
-    ensures closed { Closed places.now (members set.now) (members part.new) }
-{
-    bits::clear(part);
-    let mut growing = Growing {
-        set,
-        part,
-        queue,
-        count: 0,
-    };
-    growing.take(start);
-    growing.close(places);
-    growing.count
-}
-
-/// Makes `part` a closed part of the set: what can be come to from `start`, if
-/// it is there and as many places have room; then these stand in the queue,
-/// and their number is told. Else all of the set.
-fn part_from(
-    places: &Places,
-    start: u32,
-    room: usize,
-    set: &[u32],
-    part: &mut [u32],
-    queue: &mut [u32],
-) -> Option<usize>
-    requires sets { length places.now ≤ 32 * length set.now }
-    requires places { (n : ℕ) → In (members set.now) n → n < length places.now }
-    requires spacious { Spacious set.now part.old queue.old }
-    ensures fits { IfSome result (λ k. k ≤ room) }
-    ensures taken { PartTaken places.now set.now part.new queue.new result }
-{
-    if start < places.len() && bits::has(set, start) {
-        let count = reach(places, start, set, part, queue);
-        if count <= room {
-            return Some(count);
-        }
+    /// Begins anew, with no place.
+    fn clear(&mut self)
+        ensures same { Same self.old self.new }
+        ensures lists { Lists self.new }
+    {
+        let part = &mut *self.part;
+        bits::clear(part);
+        self.count = 0;
     }
-    bits::copy(set, part);
-    None
-}
 
-/// Lists the places of a set, which are among those of a list, in the queue,
-/// and makes `part` the same set. How many there are.
-fn list_all(list: &[u32], set: &[u32], part: &mut [u32], queue: &mut [u32]) -> usize
-    requires inside { (j : ℕ) → j < length list.now → slice_index list.now j < 32 * length set.now }
-    requires spacious { Spacious set.now part.old queue.old }
-    ensures lists { Listing set.now part.new queue.new result }
-    ensures all { Covers set.now list.now → Within (members set.now) (members part.new) }
-{
-    bits::clear(part);
-    let mut growing = Growing {
-        set,
-        part,
-        queue,
-        count: 0,
-    };
-    growing.take_all(list);
-    growing.count
-}
+    /// Makes the part all places of the set that can be come to from `start`
+    /// within it.
+    pub fn reach(&mut self, start: u32)
+        requires first { In (members self.old.set.now) start }
+        ensures same { Same self.old self.new }
+        ensures lists { Lists self.new }
+        ensures few { self.new.count ≤ size self.old.set.now }
+        ensures holds { In (members self.new.part.now) start }
+        ensures closed { Closed self.old.places.now (members self.old.set.now) (members self.new.part.now) }
+    {
+        self.clear();
+        self.take(start);
+        self.close();
+    }
 
-/// Makes `part` all of the set; where there is a list with all its places,
-/// which is short beside the room, they stand in the queue, and their number
-/// is told.
-fn part_within(
-    places: &Places,
-    within: Option<&[u32]>,
-    room: usize,
-    set: &[u32],
-    part: &mut [u32],
-    queue: &mut [u32],
-) -> Option<usize>
-    requires covers { ForSome within (λ list. Covers set.now list.now) }
-    requires inside { ForSome within (λ list. (j : ℕ) → j < length list.now → slice_index list.now j < 32 * length set.now) }
-    requires spacious { Spacious set.now part.old queue.old }
-    ensures fits { IfSome result (λ k. k ≤ room) }
-    ensures taken { PartTaken places.now set.now part.new queue.new result }
-{
-    if let Some(list) = within {
-        if list.len() <= room / 8 {
-            let count = list_all(list, set, part, queue);
-            if count <= room {
-                return Some(count);
+    /// Makes the part what can be come to from `start`, if it is in the set. How
+    /// many places these are.
+    fn take_from(&mut self, start: u32) -> Option<usize>
+        ensures same { Same self.old self.new }
+        ensures taken { IfSome result (λ k. Takes self.old self.new (Some k)) }
+    {
+        if start >= self.places.len() || !bits::has(self.set, start) {
+            return None;
+        }
+        self.reach(start);
+        Some(self.count)
+    }
+
+    /// Makes the part all of the set, if there is a list with all its places that
+    /// is no longer than `most`. How many places these are.
+    fn take_within(&mut self, within: Option<&[u32]>, most: usize) -> Option<usize>
+        requires covers { ForSome within (λ list. Covers self.old.set.now list.now) }
+        requires inside { ForSome within (λ list. (j : ℕ) → j < length list.now → slice_index list.now j < 32 * length self.old.set.now) }
+        ensures same { Same self.old self.new }
+        ensures taken { IfSome result (λ k. Takes self.old self.new (Some k)) }
+    {
+        match within {
+            Some(list) if list.len() <= most => {
+                self.clear();
+                self.take_all(list);
+                Some(self.count)
             }
+            _ => None,
         }
     }
-    bits::copy(set, part);
-    None
 }
 
 /// Makes `part` a closed part of the set: what can be come to from `start`, if
@@ -192,8 +152,22 @@ pub fn take_part(
     ensures fits { IfSome result (λ k. k ≤ room) }
     ensures taken { PartTaken places.now set.now part.new queue.new result }
 {
-    match start {
-        Some(start) => part_from(places, start, room, set, part, queue),
-        None => part_within(places, within, room, set, part, queue),
+    let mut growing = Growing {
+        places,
+        set,
+        part,
+        queue,
+        count: 0,
+    };
+    let listed = match start {
+        Some(start) => growing.take_from(start),
+        None => growing.take_within(within, room / 8),
+    };
+    match listed {
+        Some(count) if count <= room => Some(count),
+        _ => {
+            bits::copy(set, part);
+            None
+        }
     }
 }

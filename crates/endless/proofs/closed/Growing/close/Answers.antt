@@ -15,12 +15,12 @@ bounds-self-head c = omega (arith, listing_few c.loop-head.self.spacious.same c.
 
 pub take_all-requires-clause-inside : goal.take_all-requires-clause-inside
 take_all-requires-clause-inside c =
-    let long : length c.loop-head.self.set.now ≡ length c.args.self.now.set.now = ap (λ (t : List ℕ). length t) c.loop-head.invariant.grown.set in
-    λ k h. omega (arith, move_inside c.moves.ensures.playable _ c.moves.result.now c.moves.ensures.moves k h, c.requires.sets, long)
+    let long : length c.loop-head.self.set.now ≡ length c.args.self.now.set.now = ap (λ (t : List ℕ). length t) c.loop-head.invariant.grown.same.set in
+    λ k h. omega (arith, move_inside c.moves.ensures.playable _ c.moves.result.now c.moves.ensures.moves k h, c.args.self.now.sets, long)
 
 pub loop-head-smaller : goal.loop-head-smaller
 loop-head-smaller c =
-    let few : c.loop-head.self.count ≤ size c.args.self.now.set.now = subst (λ (t : List ℕ). c.loop-head.self.count ≤ size t) c.loop-head.invariant.grown.set (listing_few c.loop-head.self.spacious.same c.loop-head.invariant.grown.lists) in
+    let few : c.loop-head.self.count ≤ size c.args.self.now.set.now = subst (λ (t : List ℕ). c.loop-head.self.count ≤ size t) c.loop-head.invariant.grown.same.set (listing_few c.loop-head.self.spacious.same c.loop-head.invariant.grown.lists) in
     omega (arith, few)
 
 pub loop-head-preserved : goal.loop-head-preserved

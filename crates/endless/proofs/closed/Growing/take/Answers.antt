@@ -21,4 +21,4 @@ pub returns-clause-grown : goal.returns-clause-grown
 returns-clause-grown c =
     let space = c.args.self.now.spacious in
     let spread = spread_one c.args.place space.same space.room c.requires.lists (sym c.if-not-has.ensures) (sym c.if-has.ensures) c.insert.ensures refl in
-    record { set = refl; part = refl; queue = refl; grows = spread.grows; more = spread.more; lists = spread.lists; front = spread.front }
+    record { same = record { places = refl; set = refl; part = refl; queue = refl }; grows = spread.grows; more = spread.more; lists = spread.lists; front = spread.front }
