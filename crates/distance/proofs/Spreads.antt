@@ -7,14 +7,15 @@ use Rattle.endless.specs.Says.{goes}
 use Rattle.endless.specs.Sets.{In}
 use Rattle.endless.specs.Graph.{moves, times}
 use Rattle.endless.specs.Pulling.{Passed, Unchanged}
-use Rattle.endless.proofs.Places.{ok_size, has_move, to_place}
+use Rattle.endless.proofs.Places.{ok_size, to_place}
 use Rattle.endless.proofs.Pigeonhole.{pigeonhole}
 use Rattle.endless.proofs.CountLaws.{one_if}
-use Rattle.endless.proofs.Sources.{among_times, times_le}
+use Rattle.endless.proofs.Sources.{among_times}
 use Rattle.endless.proofs.Working.{goes_at, unchanged_goes}
 use Rattle.distance.specs.Sooner.{never}
 use Rattle.distance.specs.Spreading.{number, missing, Measured, Spread, Kept}
 use Rattle.distance.specs.Distances.{Cleared}
+use Rattle.distance.proofs.Clearing.{some_moves}
 use Rattle.distance.proofs.Missing.{nothing, missing_all, together, missing_less, missing_none, missing_some}
 
 -- ---- before the first: the target has the number 0, and no other place has one
@@ -47,9 +48,6 @@ module _ {s : List ℕ} {g : Game} (reads : Reads s g) (w : ℕ) (queue : List �
   alone_number : (j : ℕ) → j < 1 → number first_out (get_or first_queue j 0) ≡ 0
   alone_number j h = ap (number first_out) (alone j h) ∙ at_target
 
-  some_moves : (n : ℕ) → n < length g → 0 < length (moves g n)
-  some_moves n l = let t = has_move reads n l in omega (arith, among_times t.0 (moves g n) t.1, times_le t.0 (moves g n))
-
   pub spread_first : Spread g w target before 0 [] first_out first_queue awaited 1
   spread_first = record {
     order = omega arith;
@@ -71,7 +69,7 @@ module _ {s : List ℕ} {g : Game} (reads : Reads s g) (w : ℕ) (queue : List �
     gone = nothing;
     gone_passed = λ m x. elim x [ ];
     passed_gone = λ m p. absurd (omega (arith, p.1));
-    waits = λ n l o e. (omega (arith, clear.counts n l, some_moves n l), omega (arith, clear.counts n l, missing_all (moves g n)));
+    waits = λ n l o e. (omega (arith, clear.counts n l, some_moves reads n l), omega (arith, clear.counts n l, missing_all (moves g n)));
   }
     where
       at_zero : (n : ℕ) → n < length g → number first_out n ≡ 0 → (n ≡ target) ⊎ (n ≡ target → ⊥) → n ≡ target

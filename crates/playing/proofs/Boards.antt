@@ -1,9 +1,10 @@
 -- What a solved game says of its places, and of a step.
 use Rattle.std.specs.Prelude.{◌+◌, ◌*◌, ◌≤◌, All, IfOk, IfSome, MatchResult, Ok, Err, Result}
-use Rattle.std.proofs.Common.{true, ◌≡◌, ℕ, zero, suc, ◌<◌, List, [], ◌∷◌, length, get_or, Some, None, Option, sym, refl, ap, ◌∙◌, subst, arith}
+use Rattle.std.proofs.Common.{true, ◌≡◌, ℕ, ◌<◌, List, length, get_or, Some, None, Option, sym, refl, ap, ◌∙◌, subst, arith}
 use Rattle.std.proofs.lemmas.Bool.{both_ways}
+use Rattle.std.proofs.lemmas.Grind.{get_or_default_zero}
 use Rattle.std.specs.Result.{is_ok}
-use Rattle.endless.specs.Games.{Game, Reads, Among, first, later, May}
+use Rattle.endless.specs.Games.{Game, Reads, May}
 use Rattle.endless.specs.Graph.{moves}
 use Rattle.endless.specs.Says.{WinsFrom, goes}
 use Rattle.endless.specs.Sides.{number}
@@ -12,18 +13,14 @@ use Rattle.endless.specs.declared.refusal.Refusal.{Refusal}
 use Rattle.endless.specs.declared.refusal.Refusal.TheVariants.{Few, NoGame, NoPlace, OutFull}
 use Rattle.endless.specs.declared.side.Side.{Side}
 use Rattle.endless.specs.declared.side.Side.TheVariants.{Even, Odd}
-use Rattle.endless.proofs.Among.{at_among}
+use Rattle.endless.proofs.Among.{among_at, at_among}
 use Rattle.endless.proofs.Places.{has_move, to_place}
 use Rattle.endless.proofs.View.{game_in_reads}
 use Rattle.playing.specs.Boards.{Won, Answered, ByPlanHere, Stepped}
 use Rattle.playing.specs.Solutions.{Solution}
 
-some_among : (m : ℕ) (xs : List ℕ) → Among m xs → 0 < length xs
-some_among m [] a = elim a [ ]
-some_among m (x ∷ xs) a = omega arith
-
 pub some_moves : {s : List ℕ} {g : Game} → Reads s g → (n : ℕ) → n < length g → 0 < length (moves g n)
-some_moves {s} {g} r n h = let t = has_move r n h in some_among t.0 (moves g n) t.1
+some_moves {s} {g} r n h = let t = has_move r n h in omega (arith, (among_at t.0 (moves g n) t.1).1)
 
 -- two games that words read as are one, so an answer to one is an answer to the other
 pub answered_too : {s : List ℕ} {g g' : Game} {o : List ℕ} → Reads s g → Reads s g' → Answered g o → Answered g' o
@@ -57,13 +54,8 @@ solved_or_none (Err Few) post enough room long = absurd (omega (arith, post.few.
 solved_or_none (Err NoPlace) post enough room long = absurd post.says
 
 -- all moves of a place are places
-at_index : (xs : List ℕ) (k d : ℕ) → k < length xs → Among (get_or xs k d) xs
-at_index [] k d h = absurd (omega arith)
-at_index (x ∷ xs) zero d h = first
-at_index (x ∷ xs) (suc k) d h = later (at_index xs k d (omega arith))
-
 pub moves_within : {s : List ℕ} {g : Game} → Reads s g → (n : ℕ) → All (λ m. m < length g) (moves g n)
-moves_within {s} {g} r n k d h = to_place r n (get_or (moves g n) k d) (at_index (moves g n) k d h)
+moves_within {s} {g} r n k d h = subst (λ m. m < length g) (sym (get_or_default_zero (moves g n) k d h)) (to_place r n (get_or (moves g n) k 0) (at_among (moves g n) k h))
 
 -- the plan wins for either side from the places given to it
 pub wins : {g : Game} {o : List ℕ} → Answered g o → (w : Side) → WinsFrom g (number w) (goes o) (Won g o (number w))

@@ -1,5 +1,5 @@
 -- The last weights of a list and their counts, as a weight comes.
-use Rattle.std.proofs.Common.{◌≡◌, ℕ, zero, suc, ◌+◌, ◌-◌, ◌<◌, ◌≤◌, eqb, ◌⊎◌, List, [], ◌∷◌, ◌++◌, length, get_or, take, drop, replicate, Some, None, Option, sym, refl, ap, ◌∙◌, subst, inl, inr, append_assoc, arith}
+use Rattle.std.proofs.Common.{◌≡◌, ℕ, ◌+◌, ◌-◌, ◌<◌, ◌≤◌, eqb, ◌⊎◌, List, [], ◌∷◌, ◌++◌, length, get_or, take, drop, Some, None, Option, sym, refl, ap, ◌∙◌, subst, inl, inr, append_assoc, arith}
 use Rattle.std.proofs.lemmas.List.{length-drop, length-append, drop-drop, drop-append-le, take_more, get_or-set_same, get_or-set_other}
 use Rattle.std.proofs.lemmas.Bool.{cases_eq, cases_lt, eq-eqb, ne_eqb}
 use Rattle.endless.specs.Graph.{times}
@@ -7,13 +7,14 @@ use Rattle.endless.proofs.CountLaws.{one_if}
 use Rattle.endless.proofs.Sources.{times_append, times_among, among_times}
 use Rattle.playing.specs.Windows.{more, less, latest, Tells, Light, HeaviestIs, GreatestIs}
 
+one_at : (x : ℕ) → one_if (eqb x x) ≡ 1
+one_at x = ap one_if (eq-eqb x x refl)
+
 -- ---- the heaviest
 
 none_empty : (xs : List ℕ) → ((k : ℕ) → times k xs ≡ 0) → xs ≡ []
 none_empty [] h = refl
-none_empty (x ∷ xs) h =
-    let one : one_if (eqb x x) ≡ 1 = ap one_if (eq-eqb x x refl) in
-    absurd (omega (arith, h x))
+none_empty (x ∷ xs) h = absurd (omega (arith, h x, one_at x))
 
 module _ (weights counts : List ℕ) (kinds : length counts ≡ 256) (tells : Tells counts weights) (light : Light weights) where
   pub heaviest_told : (r : Option ℕ) → GreatestIs counts r → HeaviestIs weights r
@@ -32,17 +33,7 @@ module _ (weights counts : List ℕ) (kinds : length counts ≡ 256) (tells : Te
       go m some (inl h) (inl l) = absurd (omega (arith, tells m l, top.2 m h (omega arith)))
       go m some (inl h) (inr l) = absurd (omega (arith, light m l))
 
--- ---- the start
-
-pub get_or-replicate_zero : (n k : ℕ) → ◌≡◌ {A = ℕ} (get_or (replicate n 0) k 0) 0
-get_or-replicate_zero zero k = refl
-get_or-replicate_zero (suc n) zero = refl
-get_or-replicate_zero (suc n) (suc k) = get_or-replicate_zero n k
-
 -- ---- one weight more, and one less
-
-one_at : (x : ℕ) → one_if (eqb x x) ≡ 1
-one_at x = ap one_if (eq-eqb x x refl)
 
 none_at : (x k : ℕ) → (x ≡ k → ⊥) → one_if (eqb x k) ≡ 0
 none_at x k d = ap one_if (ne_eqb x k d)

@@ -1,9 +1,6 @@
-use Rattle.std.proofs.Common.{refl, arith}
-use Rattle.distance.proofs.Pulls.{pulling_none, pulled_looks, are_now, pulling_more, pulling_all}
+use Rattle.std.proofs.Common.{arith}
+use Rattle.distance.proofs.Pulls.{pulled_looks, are_now, pulling_more, pulling_all}
 use Rattle.distance.proofs.spread.Spreading.pull_all.Goals as goal
-
-pub loop-from-init : goal.loop-from-init
-loop-from-init c = pulling_none c.args.self.now c.args.to _ refl
 
 pub pull-requires : goal.pull-requires
 pull-requires c =

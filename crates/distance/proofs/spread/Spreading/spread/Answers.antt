@@ -1,10 +1,7 @@
 use Rattle.std.proofs.Common.{refl, ap, length, Bor, arith}
 use Rattle.endless.specs.Games.{Game}
-use Rattle.distance.proofs.Pulls.{advancing_none, advancing_most, advancing_more, advancing_all}
+use Rattle.distance.proofs.Pulls.{advancing_most, advancing_more, advancing_all}
 use Rattle.distance.proofs.spread.Spreading.spread.Goals as goal
-
-pub loop-head-init : goal.loop-head-init
-loop-head-init c = advancing_none c.args.self.now
 
 pub offset_bounds-self-head : goal.offset_bounds-self-head
 offset_bounds-self-head c = let p = c.requires in omega (arith, advancing_most c.loop-head.invariant p.0 p.1 p.2, c.loop-head.self.roomy.queues)

@@ -1,7 +1,6 @@
 use Rattle.std.proofs.Common.{ℕ, get_or, length, ap, sym, ◌∙◌, arith}
-use Rattle.std.proofs.lemmas.List.{length-replicate}
+use Rattle.std.proofs.lemmas.List.{length-replicate, get_or-replicate}
 use Rattle.endless.specs.Graph.{times}
-use Rattle.playing.proofs.Windows.{get_or-replicate_zero}
 use Rattle.playing.proofs.window.Window.new.Goals as goal
 
 pub invariant_of-result : goal.invariant_of-result
@@ -11,6 +10,6 @@ invariant_of-result c =
       roomy = empty.capacity;
       few = omega (arith, empty.len);
       kinds = ap length c.new.ensures ∙ length-replicate {A = ℕ} 256 0;
-      tells = λ k h. ap (λ l. get_or l k 0) c.new.ensures ∙ get_or-replicate_zero 256 k ∙ sym (ap (times k) empty.items);
+      tells = λ k h. ap (λ l. get_or l k 0) c.new.ensures ∙ get_or-replicate 256 k 0 0 h ∙ sym (ap (times k) empty.items);
       light = λ k h. ap (times k) empty.items;
     }
