@@ -1,4 +1,4 @@
-use Rattle.std.proofs.Common.{◌*◌, ◌≤◌, length, arith}
+use Rattle.std.proofs.Common.{length, arith}
 use Rattle.endless.proofs.Readers.{number_below}
 use Rattle.endless.proofs.Solving.{behind_same}
 use Rattle.distance.proofs.Sooner.{numbers}
