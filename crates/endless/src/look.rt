@@ -58,9 +58,6 @@ impl Claim<'_> {
         requires same { length within.now ≡ length self.now.set.now }
         ensures { MatchResult result (λ _. (n : ℕ) → In (members self.now.set.now) n → StaysAt self.now.graph.now (members within.now) (members self.now.set.now) (number self.now.side) (goes self.now.answer.now) n) (λ f. Spotted self.now.graph.now (members within.now) (members self.now.set.now) (number self.now.side) (goes self.now.answer.now) f) }
     {
-        for place in bits::iter(self.set) {
-            self.look_at(within, place)?;
-        }
-        Ok(())
+        bits::iter(self.set).try_for_each(|place| self.look_at(within, place))
     }
 }
