@@ -16,7 +16,8 @@ use std::alloc::Global;
 use std::process::ExitCode;
 use trial::{by_all_plans, by_rounds};
 
-// As in the other programs: below them all is only the solver, which prints nothing.
+// As in the other programs: below them all is only the solver, which prints nothing,
+// and a crate for these lines would be longer than they are.
 fn main(rt: HostRuntime) -> ExitCode {
     match run(&rt) {
         Ok(()) => ExitCode::SUCCESS,

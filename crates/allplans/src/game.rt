@@ -9,6 +9,7 @@ use crate::fine::FineGame;
 use crate::side::Side;
 use std::alloc::Global;
 
+// A number of its own: `allplans` shares nothing with the solver but words (docs/AGREE.md).
 /// The most places that a game may have.
 pub const MOST_PLACES: usize = 16384;
 

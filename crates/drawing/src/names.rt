@@ -8,6 +8,7 @@ use indexmap::IndexSet;
 use std::alloc::{AllocError, Global};
 use std::marker::Model;
 
+// A number of its own, as this crate reads texts and takes no more from `endless` than a `Side`.
 /// The most places of a drawing.
 pub const MOST_PLACES: usize = 16_384;
 

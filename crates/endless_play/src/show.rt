@@ -15,15 +15,14 @@ impl Table<'_> {
         requires { place < length self.now.game }
     {
         let first = self.name(place);
-        let wins = self.board.winner(place) == self.side;
-        let winner = u32::from(self.board.winner(place));
-        let own = u32::from(self.side);
-        let yours = u32::from(self.side.other());
+        let winner = self.board.winner(place);
+        let own = self.side;
+        let yours = own.other();
         println!(rt; "{file}: side {winner} wins from {first}")?;
         println!(rt;
             "the program plays side {own}, you play side {yours}; :help says what you can type"
         )?;
-        if !wins {
+        if winner != own {
             println!(rt;
                 "side {own} does not win from {first}: where it does not win, the program makes any move"
             )?;
@@ -37,9 +36,9 @@ impl Table<'_> {
     {
         let here = self.name(place);
         let weight = self.board.weight(place);
-        let own = self.board.whose(place) == self.side;
+        let whose = self.board.whose(place);
+        let own = whose == self.side;
         let who = if own { "the program" } else { "you" };
-        let whose = u32::from(self.board.whose(place));
         println!(rt; "at {here}, weight {weight}: side {whose} moves, {who}")?;
         Ok(())
     }
@@ -58,7 +57,7 @@ impl Table<'_> {
     pub(crate) fn show_move(&self, rt: &HostRuntime, from: u32, to: u32) -> Result<(), Fault>
         requires { from < length self.now.game }
     {
-        let own = u32::from(self.side);
+        let own = self.side;
         let to = self.name(to);
         if steps::goes_by_plan(&self.board, self.side, from) {
             println!(rt; "the program goes to {to}, by its plan")?;
@@ -88,13 +87,13 @@ impl Table<'_> {
         let last = trail.len();
         println!(rt; "moves made: {made}")?;
         if let Some(weight) = trail.heaviest() {
-            let kind = u32::from(Side::of_weight(u32::from(weight)));
+            let kind = Side::of_weight(u32::from(weight));
             println!(rt;
                 "places looked back on: {last}, at most the last 1,000; heaviest weight among them: {weight}, of side {kind}'s kind"
             )?;
         }
         let here = self.name(place);
-        let winner = u32::from(self.board.winner(place));
+        let winner = self.board.winner(place);
         println!(rt;
             "that is a look back and no verdict; the verdict is the answer's: side {winner} wins from {here}"
         )?;

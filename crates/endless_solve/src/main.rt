@@ -15,6 +15,8 @@ use std::env;
 use std::io::{BufWriter, Write};
 use std::process::ExitCode;
 
+// As in the other programs: below them all is only the solver, which prints nothing,
+// and a crate for these lines would be longer than they are.
 fn main(rt: HostRuntime) -> ExitCode {
     match run(&rt) {
         Ok(()) => ExitCode::SUCCESS,

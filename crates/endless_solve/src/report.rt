@@ -3,7 +3,7 @@ ghost use Rattle.std.specs.Prelude.{length};
 ghost use Rattle.std.specs.Iterator.{at_most};
 
 use drawing::Name;
-use endless::answer::{PlaceId, goes_to, won_by};
+use endless::answer::{PlaceId, Winner, goes_to, won_by};
 use endless::place::Head;
 use endless::side::Side;
 use std::io;
@@ -71,15 +71,14 @@ fn place_line<W: Write>(
     at: PlaceId,
     answer: &[u32],
 ) -> io::Result<()> {
-    let (Some(winner), Some(to)) = (won_by(answer, at), goes_to(answer, at)) else {
+    let (Some(Winner(side)), Some(PlaceId(to))) = (won_by(answer, at), goes_to(answer, at)) else {
         return Ok(());
     };
-    let side = u32::from(winner.0);
     write!(out, "{name} {side} ")?;
-    if head.whose != winner.0 {
+    if head.whose != side {
         return out.write_all(b"-\n");
     }
-    match names.get(to.0 as usize) {
+    match names.get(to as usize) {
         Some(target) => {
             let target = Name(target.as_str());
             writeln!(out, "{target}")

@@ -9,6 +9,7 @@ use crate::{node, scan};
 use std::alloc::Global;
 use std::marker::Model;
 
+// A number of its own, as this crate reads texts and takes no more from `endless` than a `Side`.
 /// The most nodes.
 pub const MOST_NODES: usize = 16_384;
 

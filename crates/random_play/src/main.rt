@@ -12,6 +12,8 @@ use std::alloc::AllocError;
 use std::process::ExitCode;
 use std::{env, io};
 
+// As in the other programs: below them all is only the solver, which prints nothing,
+// and a crate for these lines would be longer than they are.
 fn main(rt: HostRuntime) -> ExitCode {
     match run(&rt) {
         Ok(()) => ExitCode::SUCCESS,

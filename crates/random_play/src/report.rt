@@ -13,7 +13,7 @@ pub(crate) fn start(rt: &HostRuntime, file: &str, board: &Board) -> Result<(), F
     requires some { 0 < length board.now.game }
 {
     let many = board.len();
-    let side = u32::from(board.winner(0));
+    let side = board.winner(0);
     println!(rt;
         "{file}: {many} places; side {side} wins from the first and goes by its plan, the other side at random"
     )?;
@@ -35,11 +35,11 @@ pub(crate) fn end(rt: &HostRuntime, play: &Play) -> Result<(), Fault> {
         "windows with a heaviest weight of the winner's kind: {own}, of the other kind: {other}"
     )?;
     if let Some(weight) = play.trail.heaviest() {
-        let kind = u32::from(Side::of_weight(u32::from(weight)));
+        let kind = Side::of_weight(u32::from(weight));
         println!(rt; "heaviest of the last 1,000 places: {weight}, of side {kind}'s kind")?;
     }
     let place = play.place;
-    let winner = u32::from(play.board.winner(place));
+    let winner = play.board.winner(place);
     println!(rt; "verdict at place {place}: side {winner} wins")?;
     Ok(())
 }
