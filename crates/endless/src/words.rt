@@ -72,6 +72,7 @@ impl<'a> GameWords<'a> {
     }
 
     /// Goes through the heads of the places.
+    // That the words are fewer than 2^63 (`short`) is for who counts them on the way.
     pub fn heads(&self) -> Heads<'a>
         ensures rows { Rows result.left result.words.now }
         ensures are { heads_in result.left result.words.now ≡ map head_of self.now }
@@ -84,7 +85,7 @@ impl<'a> GameWords<'a> {
         }
     }
 
-    /// The words from this one on.
+    /// The words from the one at `at` on.
     pub fn words_from(&self, at: usize) -> &'a [u32]
         requires { at ≤ length (words_of self.now) }
         ensures are { result.now ≡ drop at (words_of self.now) }
