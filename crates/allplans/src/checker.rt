@@ -211,6 +211,8 @@ fn way_back(
 fn take_step(before: &mut [Option<usize>], place: usize) -> Option<usize>
     ensures { IsSome result → known before.new + 1 ≡ known before.old }
 {
+    // No `get_mut(place)?.take()`: tried, and that one step fewer is known was not
+    // shown of the slice behind the borrowed entry.
     let Some(Some(step)) = before.get(place) else {
         return None;
     };

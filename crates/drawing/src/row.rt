@@ -12,6 +12,7 @@ use crate::refusal::Fault;
 use crate::token::{Spelt, Token, Tokens};
 use endless::side::Side;
 
+// A number of its own, as this crate reads texts and takes no more from `endless` than a `Side`.
 /// Weights are below this.
 const WEIGHTS: u32 = 256;
 

@@ -10,6 +10,7 @@ use crate::row;
 use crate::token::{Spelt, Token, Tokens};
 use std::alloc::Global;
 
+// Each form of text has this number of its own, as neither crate knows of the other.
 /// The most moves of a drawing, those of all places together.
 pub const MOST_MOVES: usize = 64_000;
 

@@ -8,6 +8,7 @@ use crate::scan;
 use endless::side::Side;
 use std::alloc::Global;
 
+// Each form of text has this number of its own, as neither crate knows of the other.
 /// The most successors, those of all nodes together.
 pub const MOST_MOVES: usize = 64_000;
 

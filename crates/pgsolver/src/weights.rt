@@ -9,6 +9,7 @@ ghost use Rattle.pgsolver.specs.Weights.{weights_by, Spreads, Fitted, Unfit, Sam
 use std::alloc::{AllocError, AllocFailed, Global};
 use std::collections::BTreeMap;
 
+// A number of its own, as this crate reads texts and takes no more from `endless` than a `Side`.
 /// Weights are below this.
 const WEIGHTS: u32 = 256;
 

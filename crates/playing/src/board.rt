@@ -4,6 +4,7 @@ ghost use Rattle.endless.specs.Games.{Game, Reads, whose, weight};
 ghost use Rattle.endless.specs.Graph.{moves};
 ghost use Rattle.endless.specs.Says.{side, goes};
 ghost use Rattle.endless.specs.Sides.{number};
+ghost use Rattle.endless.specs.View.{Playable};
 ghost use Rattle.playing.specs.Boards.{Answered};
 
 use endless::answer::PlaceId;
@@ -97,7 +98,8 @@ impl<'a> Board<'a> {
 
     /// How many places there are.
     pub fn len(&self) -> u32
-        ensures { result ≡ length self.now.game }
+        ensures len { result ≡ length self.now.game }
+        ensures playable { Playable self.now.game }
     {
         self.places.len()
     }

@@ -2,10 +2,11 @@
 ghost use Rattle.std.specs.Prelude.{◌≡◌, ◌+◌, ◌^◌, ◌<◌, slice_index, replicate};
 ghost use Rattle.playing.specs.Windows.{more, less, GreatestIs};
 
+use endless::weights::WEIGHTS;
 use std::marker::Model;
 
 /// How many weights there are.
-pub const KINDS: usize = 256;
+pub const KINDS: usize = WEIGHTS;
 
 /// How often each of the 256 weights stands among some.
 #[derive(Drop)]
