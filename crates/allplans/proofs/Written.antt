@@ -1,12 +1,8 @@
 -- Words that are written one behind the other.
-use Rattle.std.proofs.Common.{◌≡◌, ℕ, ◌+◌, ◌<◌, ◌≤◌, List, [], ◌∷◌, ◌++◌, length, get_or, take, sym, refl, ap, ◌∙◌, subst, append_assoc, append-nil}
-use Rattle.std.proofs.lemmas.List.{take_more, take_all}
+use Rattle.std.proofs.Common.{◌≡◌, ℕ, ◌+◌, ◌<◌, List, [], ◌∷◌, ◌++◌, length, get_or, take, sym, refl, ap, ◌∙◌, subst, append_assoc, append-nil}
+use Rattle.std.proofs.lemmas.List.{take_more}
 use Rattle.allplans.specs.declared.game.Place.{Place}
 use Rattle.allplans.specs.Games.{place_words, places_words}
-
--- the words before the moves, and then the moves
-pub head_and_moves : (w v1 v2 ms : List ℕ) (a b n : ℕ) → v1 ≡ w ++ (a ∷ b ∷ n ∷ []) → v2 ≡ v1 ++ ms → v2 ≡ w ++ (a ∷ b ∷ n ∷ ms)
-head_and_moves w v1 v2 ms a b n e1 e2 = rw (e2, e1) (simp append_assoc)
 
 pub places_words_append : (ps qs : List Place) → places_words (ps ++ qs) ≡ places_words ps ++ places_words qs
 places_words_append [] qs = refl
@@ -22,7 +18,3 @@ places_words_more ps i p h e =
 -- one place more is written
 pub written_more : (ps qs : List Place) (w v : List ℕ) (n i : ℕ) (p : Place) → qs ≡ ps → i < length qs → p ≡ get_or qs i p → w ≡ n ∷ places_words (take i ps) → v ≡ w ++ place_words p → v ≡ n ∷ places_words (take (i + 1) ps)
 written_more ps qs w v n i p s h e inv step = step ∙ (ap (λ (l : List ℕ). l ++ place_words p) inv ∙ ap (λ (l : List ℕ). n ∷ l) (sym (places_words_more ps i p (subst (λ (l : List Place). i < length l) s h) (subst (λ (l : List Place). p ≡ get_or l i p) s e))))
-
--- each place is written
-pub written_all : (ps qs : List Place) (w : List ℕ) (i : ℕ) → qs ≡ ps → length qs ≤ i → w ≡ length ps ∷ places_words (take i ps) → w ≡ length ps ∷ places_words ps
-written_all ps qs w i s h inv = inv ∙ ap (λ (l : List Place). length ps ∷ places_words l) (take_all i ps (subst (λ (l : List Place). length l ≤ i) s h))
