@@ -8,6 +8,7 @@ use Rattle.endless.specs.Sets.{Set, In, Out, Within, having}
 use Rattle.endless.specs.Bits.{members, size, Removed, Least, NoneFrom}
 use Rattle.endless.specs.Pulling.{Passed, Unchanged, Starts}
 use Rattle.endless.specs.Levels.{Stays, Given}
+use Rattle.endless.specs.Parts.{PickedIf}
 use Rattle.endless.proofs.Tests.{T_true, true_T}
 use Rattle.endless.proofs.Sets.{having_in, having_within, having_is}
 use Rattle.endless.proofs.SetLaws.{members_below, some_size}
@@ -95,6 +96,11 @@ module _ {f : ℕ → ℕ} {k : ℕ} {own left queue : List ℕ} {from count : �
         all : (n : ℕ) → In (members own) n → Out (members left') n → (n ≡ m) ⊎ (n ≡ m → ⊥) → Passed queue' (count + 1) n
         all n x o (inl s) = (count, omega arith, last ∙ sym s)
         all n x o (inr d) = let t = so_far.all n x (still n d o) in (t.0, omega (arith, t.1), front t.0 t.1 ∙ t.2)
+
+  -- one member more
+  pub gathering_more : {m : ℕ} {left' queue' : List ℕ} {r : ℕ} → Least (members left) from m → size own ≤ length queue → PickedIf f k m count left queue left' queue' r → Gathering f k own left' queue' (m + 1) r
+  gathering_more least room (inl t) = rw (t.0, t.1, t.2) (gathering_skip least (t.3 (true_T _ least.is)))
+  gathering_more least room (inr t) = rw t.0 (gathering_take least t.2 (omega (arith, gathering_room least, room)) t.3 t.4)
 
   pub gathering_all : NoneFrom (members left) from → Starts (members own) (having (members own) f k) left queue count
   gathering_all none = record {

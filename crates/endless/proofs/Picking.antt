@@ -13,9 +13,10 @@ use Rattle.endless.specs.Bits.{members, size, Removed}
 use Rattle.endless.specs.Pulling.{Passed, Unchanged, Starts}
 use Rattle.endless.specs.Sides.{number}
 use Rattle.endless.specs.Levels.{HeaviestIn, HeaviestOf, GatheredIn, Stays, Taken, TakenIf}
-use Rattle.endless.specs.Gatherings.{SameGathering, Takes}
+use Rattle.endless.specs.Gatherings.{SameGathering, SamePicking, Takes, Picks}
 use Rattle.endless.specs.declared.gather.Gathering.{Gathering}
-use Rattle.endless.specs.Parts.{Told, Covers, Gives, PickedIf}
+use Rattle.endless.specs.declared.gather.Picking as picking
+use Rattle.endless.specs.Parts.{Told, Covers, Gives, Part, PickedIf, wanted, mark}
 use Rattle.endless.proofs.Tests.{T_true, true_T}
 use Rattle.endless.proofs.SetLaws.{size_some}
 use Rattle.endless.proofs.Sets.{having_in, having_within, having_is}
@@ -229,6 +230,13 @@ gathering_then s t = record { graph = t.graph ∙ s.graph; side = t.side ∙ s.s
 pub taken_so : {a b : Gathering} (c : Gathering) {place : ℕ} → SameGathering a b → Takes b place c → TakenIf a.graph.now (number a.side) a.heaviest place (members a.own.now) b.count b.left.now b.queue.now b.out.now c.left.now c.queue.now c.out.now c.count
 taken_so c s t = rw (← s.graph, ← s.side, ← s.heaviest, ← s.own) t
 
+-- and one of wanted places
+pub same_picking_then : {a b c : picking.Picking} → SamePicking a b → SamePicking b c → SamePicking a c
+same_picking_then s t = record { winner = t.winner ∙ s.winner; set = t.set ∙ s.set; out = t.out ∙ s.out; queue = t.queue ∙ s.queue; set_long = t.set_long ∙ s.set_long; queue_long = t.queue_long ∙ s.queue_long }
+
+pub picked_so : {a b : picking.Picking} (c : picking.Picking) {place : ℕ} → SamePicking a b → Picks b place c → PickedIf (wanted a.winner a.out.now) (mark a.winner) place b.count b.set.now b.queue.now c.set.now c.queue.now c.count
+picked_so c s t = rw (← s.winner, ← s.out) t
+
 -- ---- the same targets, told otherwise
 pub starts_as : (U D E : Set) (l q : List ℕ) (k : ℕ) → Within D E → Within E D → Starts U D l q k → Starts U E l q k
 starts_as U D E l q k to fro s = record {
@@ -239,3 +247,9 @@ starts_as U D E l q k to fro s = record {
   first = λ j h. to (get_or q j 0) (s.first j h);
   all = λ n x. s.all n (fro n x);
 }
+
+-- where there is no list, a part is all of its set
+pub starts_whole : {own l q : List ℕ} {list : Option (List ℕ)} {R : Set} {count : ℕ} (f : ℕ → ℕ) (k : ℕ) → Part own list R → list ≡ None → Starts (members own) (having (members own) f k) l q count → Starts (members own) (having R f k) l q count
+starts_whole {own} {l} {q} {R = R} {count = count} f k part none = starts_as (members own) (having (members own) f k) (having R f k) l q count
+    (λ n x. having_in R f k n (part.whole none n (having_within (members own) f k n x)) (having_is (members own) f k n x))
+    (λ n x. having_in (members own) f k n (part.within n (having_within R f k n x)) (having_is R f k n x))

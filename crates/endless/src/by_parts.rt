@@ -17,7 +17,7 @@ use crate::attractor::attract_counted;
 use crate::bits;
 use crate::closed::take_part;
 use crate::desk::Desk;
-use crate::gather::{gather_listed, gather_lost, gather_targets, heaviest_in};
+use crate::gather::{gather_part, gather_targets, heaviest_in};
 use crate::graph::Graph;
 use crate::order::{Effort, Order, find_start};
 use crate::side::Side;
@@ -106,9 +106,9 @@ fn peel_won(
     ensures peeled { (R : Set) → Subgame graph.now (members own.old) → Part own.old (option_copied list.entry) R → Peeled graph.now (members own.old) (number winner) R (members own.new) desk.old.out.now desk.new.out.now }
 {
     match list {
-        Some(list) => {
+        Some(_) => {
             // As `&` the answer cannot be lent beside the queue: tried, no rule.
-            let targets = gather_listed(None, list, own, &mut *desk.out, desk.queue);
+            let targets = gather_part(None, list, own, &mut *desk.out, desk.queue);
             let taken = attract_counted(graph, winner, own, desk, targets, many);
             many - taken
         }
@@ -143,7 +143,7 @@ fn peel_part(
 {
     let loser = winner.other();
     // As `&` the answer cannot be lent beside the queue: tried, no rule.
-    let lost = gather_lost(loser, list, own, &mut *desk.out, desk.queue);
+    let lost = gather_part(Some(loser), list, own, &mut *desk.out, desk.queue);
     if lost == 0 {
         peel_won(graph, winner, many, list, own, desk)
     } else {

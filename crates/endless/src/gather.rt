@@ -1,14 +1,13 @@
 //! Places of a set, gathered into the queue: the heaviest, and those that a side has won.
-ghost use Rattle.std.specs.Prelude.{◌≡◌, ℕ, ◌+◌, ◌*◌, ◌^◌, ◌<◌, ◌≤◌, List, length, option_copied, ◌==◌, slice_index};
+ghost use Rattle.std.specs.Prelude.{◌≡◌, ℕ, ◌+◌, ◌*◌, ◌^◌, ◌<◌, ◌≤◌, List, length, option_copied, MatchOption, ◌==◌, slice_index};
 ghost use Rattle.std.specs.Option.{ForSome};
 ghost use Rattle.std.specs.Iterator.{IsFinite};
-ghost use Rattle.endless.specs.Says.{side};
 ghost use Rattle.endless.specs.Sets.{Set, In, Out, Within, having};
 ghost use Rattle.endless.specs.Sides.{number};
-ghost use Rattle.endless.specs.Bits.{members, size};
+ghost use Rattle.endless.specs.Bits.{members, size, Least, NoneFrom};
 ghost use Rattle.endless.specs.Pulling.{Unchanged, Starts};
 ghost use Rattle.endless.specs.Levels.{HeaviestIn, HeaviestOf, GatheredIn, Fitting, Given, Taken, TakenIf, Stays};
-ghost use Rattle.endless.specs.Parts.{Told, Covers, Gives, Part, PickedIf, wanted, mark};
+ghost use Rattle.endless.specs.Parts.{Told, Covers, Gives, Part, wanted, mark};
 
 use crate::attractor::first_into;
 use crate::bits;
@@ -166,32 +165,6 @@ pub(crate) fn gather_targets(
     }
 }
 
-/// Takes the places that the answer gives to a side out of the set and puts
-/// them into the queue.
-pub(crate) fn gather_won(winner: Side, set: &mut [u32], out: &[u32], queue: &mut [u32]) -> usize
-    requires answers { (n : ℕ) → In (members set.old) n → 2 * n < length out.now }
-    requires room { size set.old ≤ length queue.old }
-    requires small { 32 * length set.old < 2 ^ 32 }
-    ensures counts { result + size set.new ≡ size set.old }
-    ensures same { result ≡ 0 → set.new ≡ set.old }
-    ensures starts { Starts (members set.old) (having (members set.old) (side out.now) (number winner)) set.new queue.new result }
-{
-    let word = u32::from(winner);
-    let mut count = 0;
-    let mut from = 0;
-    // The set loses members on the way, so that no iterator can borrow it, as
-    // one borrows the list of `gather_listed`.
-    while let Some(place) = bits::next(set, from) {
-        if out[2 * place as usize] == word {
-            bits::remove(set, place);
-            queue[count] = place;
-            count += 1;
-        }
-        from = place + 1;
-    }
-    count
-}
-
 /// Whether the answer gives a place to a side; so it is of all places where no
 /// side is asked for.
 // An `Option` and no closure: the contracts name what is wanted, and with a
@@ -206,59 +179,86 @@ fn is_wanted(winner: Option<Side>, out: &[u32], place: u32) -> bool
     }
 }
 
-/// Takes a place out of the set and to the end of the queue, where it is there
-/// and wanted. The number of places in the queue then.
-fn take_wanted(
+/// Wanted places that are being gathered into the queue: the set, from which
+/// they are taken, the answer, which gives places to `winner`, and how many
+/// stand in the queue. Where there is no winner, all places are wanted.
+#[derive(Drop)]
+struct Picking<'r> {
     winner: Option<Side>,
-    place: u32,
-    set: &mut [u32],
-    out: &[u32],
-    queue: &mut [u32],
+    set: &'r mut [u32],
+    out: &'r [u32],
+    queue: &'r mut [u32],
     count: usize,
-) -> usize
-    requires answers { 2 * place < length out.now }
-    requires inside { place < 32 * length set.old }
-    requires room { count + size set.old ≤ length queue.old }
-    ensures { PickedIf (wanted winner out.now) (mark winner) place count set.old queue.old set.new queue.new result }
-{
-    if !bits::has(set, place) {
-        return count;
-    }
-    if !is_wanted(winner, out, place) {
-        return count;
-    }
-    bits::remove(set, place);
-    queue[count] = place;
-    count + 1
+    ghost answers: { (n : ℕ) → In (members set.now) n → 2 * n < length out.now },
+    ghost room: { count + size set.now ≤ length queue.now },
+    ghost small: { 32 * length set.now < 2 ^ 32 },
 }
 
-/// Takes the wanted places of a list out of the set and puts them into the
-/// queue.
-pub(crate) fn gather_listed(
+impl Picking<'_> {
+    ghost use Rattle.endless.specs.Gatherings.{SamePicking, Picks, Picked, PickedOf};
+
+    /// Takes a place, where it is in the set and wanted.
+    fn take(&mut self, place: u32)
+        requires inside { place < 32 * length self.old.set.now }
+        ensures same { SamePicking self.old self.new }
+        ensures picks { Picks self.old place self.new }
+    {
+        let set = &mut *self.set;
+        if !bits::has(set, place) {
+            return;
+        }
+        if !is_wanted(self.winner, self.out, place) {
+            return;
+        }
+        bits::remove(set, place);
+        self.queue[self.count] = place;
+        self.count += 1;
+    }
+
+    /// Takes the wanted places of a list, where none stands in the queue yet. How
+    /// many these are.
+    fn take_listed(&mut self, list: &[u32]) -> usize
+        requires inside { (j : ℕ) → j < length list.now → slice_index list.now j < 32 * length self.old.set.now }
+        requires none { self.old.count ≡ 0 }
+        ensures picked { Picked self.old self.new result }
+        ensures all { (R : Set) → Within R (members self.old.set.now) → Told list.now R → PickedOf self.old R self.new result }
+    {
+        for place in list {
+            self.take(*place);
+        }
+        self.count
+    }
+
+    /// The least place of the set at or after `from`.
+    fn next(&self, from: u32) -> Option<u32>
+        ensures { MatchOption result (NoneFrom (members self.now.set.now) from) (λ place. Least (members self.now.set.now) from place) }
+    {
+        bits::next(self.set, from)
+    }
+
+    /// Takes the wanted places of the set, where none stands in the queue yet. How
+    /// many these are.
+    fn take_all(&mut self) -> usize
+        requires none { self.old.count ≡ 0 }
+        ensures picked { Picked self.old self.new result }
+        ensures all { PickedOf self.old (members self.old.set.now) self.new result }
+    {
+        let mut from = 0;
+        // The set loses members on the way, so that no iterator can borrow it, as
+        // one borrows a list.
+        while let Some(place) = self.next(from) {
+            self.take(place);
+            from = place + 1;
+        }
+        self.count
+    }
+}
+
+/// Takes the places of a part that the answer gives to `winner`, or all of them
+/// where there is none, out of the set and puts them into the queue: by the
+/// list, if there is one.
+pub(crate) fn gather_part(
     winner: Option<Side>,
-    list: &[u32],
-    set: &mut [u32],
-    out: &[u32],
-    queue: &mut [u32],
-) -> usize
-    requires answers { (j : ℕ) → j < length list.now → 2 * slice_index list.now j < length out.now }
-    requires inside { (j : ℕ) → j < length list.now → slice_index list.now j < 32 * length set.old }
-    requires room { size set.old ≤ length queue.old }
-    ensures counts { result + size set.new ≡ size set.old }
-    ensures same { result ≡ 0 → set.new ≡ set.old }
-    ensures starts { (R : Set) → Within R (members set.old) → Told list.now R → Starts (members set.old) (having R (wanted winner out.now) (mark winner)) set.new queue.new result }
-{
-    let mut count = 0;
-    for place in list {
-        count = take_wanted(winner, *place, set, out, queue, count);
-    }
-    count
-}
-
-/// Takes the places of a part that the answer gives to a side out of the set
-/// and puts them into the queue.
-pub(crate) fn gather_lost(
-    winner: Side,
     list: Option<&[u32]>,
     set: &mut [u32],
     out: &[u32],
@@ -270,10 +270,17 @@ pub(crate) fn gather_lost(
     requires small { 32 * length set.old < 2 ^ 32 }
     ensures counts { result + size set.new ≡ size set.old }
     ensures same { result ≡ 0 → set.new ≡ set.old }
-    ensures starts { (R : Set) → Part set.old (option_copied list.entry) R → Starts (members set.old) (having R (side out.now) (number winner)) set.new queue.new result }
+    ensures starts { (R : Set) → Part set.old (option_copied list.entry) R → Starts (members set.old) (having R (wanted winner out.now) (mark winner)) set.new queue.new result }
 {
+    let mut picking = Picking {
+        winner,
+        set,
+        out,
+        queue,
+        count: 0,
+    };
     match list {
-        Some(list) => gather_listed(Some(winner), list, set, out, queue),
-        None => gather_won(winner, set, out, queue),
+        Some(list) => picking.take_listed(list),
+        None => picking.take_all(),
     }
 }

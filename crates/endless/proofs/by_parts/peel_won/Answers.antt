@@ -5,8 +5,8 @@ use Rattle.endless.specs.Bits.{members}
 use Rattle.endless.specs.Sides.{number}
 use Rattle.endless.proofs.Tests.{T_true}
 use Rattle.endless.proofs.Sets.{having_in, having_within}
-use Rattle.endless.proofs.SetLaws.{size_none, members_below}
-use Rattle.endless.proofs.Picking.{told_in, starts_as}
+use Rattle.endless.proofs.SetLaws.{size_none}
+use Rattle.endless.proofs.Picking.{starts_as}
 use Rattle.endless.proofs.Turns.{peeled_whole}
 use Rattle.endless.proofs.Levels.{peeled_of}
 use Rattle.endless.proofs.by_parts.peel_won.Goals as goal
@@ -21,38 +21,35 @@ returns-in-None c = record {
   peeled = λ R sub part. peeled_whole c.args.graph.now (members c.args.own.now) R (number c.args.winner) (members c.clear.new.set) c.args.desk.now.out.now part.within (part.whole (ap option_copied c.in-None.is)) (λ n x. both_ways _ (size_none c.clear.new.set c.clear.ensures n) (T_true _ x));
 }
 
-pub gather_listed-targets-requires-clause-answers : goal.gather_listed-targets-requires-clause-answers
-gather_listed-targets-requires-clause-answers c = λ j h. let r = c.requires.part in omega (arith, c.requires.lent.inside _ (r.1.within _ (told_in c.in-Some.list.now r.0 (r.1.told _ (ap option_copied c.in-Some.is)) j h)), c.requires.lent.sized.answers)
-
-pub gather_listed-targets-requires-clause-inside : goal.gather_listed-targets-requires-clause-inside
-gather_listed-targets-requires-clause-inside c = λ j h. let r = c.requires.part in members_below c.args.own.now _ (T_true _ (r.1.within _ (told_in c.in-Some.list.now r.0 (r.1.told _ (ap option_copied c.in-Some.is)) j h)))
+pub gather_part-targets-requires-clause-answers : goal.gather_part-targets-requires-clause-answers
+gather_part-targets-requires-clause-answers c = λ n x. omega (arith, c.requires.lent.inside n x, c.requires.lent.sized.answers)
 
 pub attract_counted-taken-requires : goal.attract_counted-taken-requires
 attract_counted-taken-requires c =
     let r = c.requires.part in
-    let starts = c.gather_listed-targets.ensures.starts r.0 r.1.within (r.1.told _ (ap option_copied c.in-Some.is)) in
+    let starts = c.gather_part-targets.ensures.starts r.0 r.1 in
     record {
       sized = record { sets = omega (arith, c.requires.lent.sized.sets); answers = c.requires.lent.sized.answers; cursors = c.requires.lent.sized.cursors };
       inside = λ n x. c.requires.lent.inside n (starts.rest n x);
       targets = λ j h. c.requires.lent.inside _ (starts.inside _ (starts.first j h));
-      room = omega (arith, c.gather_listed-targets.ensures.counts, c.requires.lent.queues);
-      counted = c.requires.counted ∙ sym c.gather_listed-targets.ensures.counts;
+      room = omega (arith, c.gather_part-targets.ensures.counts, c.requires.lent.queues);
+      counted = c.requires.counted ∙ sym c.gather_part-targets.ensures.counts;
     }
 
 pub overflow_sub-result : goal.overflow_sub-result
-overflow_sub-result c = omega (arith, c.requires.counted, c.gather_listed-targets.ensures.counts, c.attract_counted-taken.ensures.moved.counts)
+overflow_sub-result c = omega (arith, c.requires.counted, c.gather_part-targets.ensures.counts, c.attract_counted-taken.ensures.moved.counts)
 
 pub returns-in-Some : goal.returns-in-Some
 returns-in-Some c =
     let r = c.requires.part in
-    let starts = c.gather_listed-targets.ensures.starts r.0 r.1.within (r.1.told _ (ap option_copied c.in-Some.is)) in
+    let starts = c.gather_part-targets.ensures.starts r.0 r.1 in
     record {
-      rest = omega (arith, c.requires.counted, c.gather_listed-targets.ensures.counts, c.attract_counted-taken.ensures.moved.counts);
-      falls = λ h. omega (arith, (starts.all _ (having_in r.0 _ _ _ (r.1.some_place h).1 refl)).1, c.gather_listed-targets.ensures.counts, c.attract_counted-taken.ensures.moved.counts, c.attract_counted-taken.ensures.moved.grows);
+      rest = omega (arith, c.requires.counted, c.gather_part-targets.ensures.counts, c.attract_counted-taken.ensures.moved.counts);
+      falls = λ h. omega (arith, (starts.all _ (having_in r.0 _ _ _ (r.1.some_place h).1 refl)).1, c.gather_part-targets.ensures.counts, c.attract_counted-taken.ensures.moved.counts, c.attract_counted-taken.ensures.moved.grows);
       less = λ n x. starts.rest n (c.attract_counted-taken.ensures.moved.less n x);
       same = search rules;
       frame = λ n x. c.attract_counted-taken.ensures.moved.frame n (λ y. absurd (x (starts.rest n y)));
       peeled = λ R sub part.
-          let here = starts_as (members c.args.own.now) _ R _ _ _ (having_within R _ _) (λ n x. having_in R _ _ n x refl) (c.gather_listed-targets.ensures.starts R part.within (part.told _ (ap option_copied c.in-Some.is))) in
+          let here = starts_as (members c.args.own.now) _ R _ _ _ (having_within R _ _) (λ n x. having_in R _ _ n x refl) (c.gather_part-targets.ensures.starts R part) in
           peeled_of here c.attract_counted-taken.ensures.moved (c.attract_counted-taken.ensures.attracts (members c.args.own.now) R sub here);
     }
