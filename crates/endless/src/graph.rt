@@ -5,7 +5,7 @@ ghost use Rattle.endless.specs.Graph.{positions, moves, Placed, Preds, times, up
 ghost use Rattle.endless.specs.Sides.{number};
 ghost use Rattle.endless.specs.View.{Playable};
 
-use crate::place::{Head, HeadWords};
+use crate::place::Head;
 use crate::positions::{Halves, halves, position};
 use crate::side::Side;
 use crate::words::GameWords;
@@ -77,18 +77,7 @@ impl<'a> Places<'a> {
         ensures moves { result.moves ≡ length (moves self.now n) }
         ensures playable { Playable self.now }
     {
-        // No `Head::read`, which tests the words once more: tried, and a check of
-        // an answer took 201 ms where it takes 123.
-        let head = HeadWords::read(self.words_from(n));
-        Head {
-            whose: if head.whose == 0 {
-                Side::Even
-            } else {
-                Side::Odd
-            },
-            weight: head.weight,
-            moves: head.moves,
-        }
+        Head::read(self.words_from(n)).unwrap()
     }
 
     /// The weight of a place.
