@@ -69,7 +69,7 @@ fn number_from(
     ensures behind { (n : ℕ) → length graph.now ≤ n → Unchanged out.old out.new n }
     ensures measured { Measured graph.now (side-number side) target (number out.new) (goes out.new) }
 {
-    clear(graph, out, awaited);
+    clear(graph.places(), out, awaited);
     out[2 * target as usize] = 0;
     queue[0] = target;
     spread(graph, side, out, queue, awaited);

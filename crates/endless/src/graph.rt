@@ -25,8 +25,8 @@ pub fn find_starts(game: &GameWords, starts: &mut [Halves])
     ensures { Placed game.now (positions starts.new) }
 {
     let mut at = 1;
-    // By number: tried `zip`, and that `at` fits was not shown without an
-    // invariant, which is said by this number.
+    // By number: tried with `zip`, and of what an adapter of `iter_mut` writes
+    // nothing is known.
     for (i, head) in game.heads().enumerate() {
         starts[i] = halves(at);
         at += 3 + head.moves as usize;
@@ -264,8 +264,6 @@ fn count_entering(places: &Places, counts: &mut [Halves])
     ensures { (m : ℕ) → slice_index (positions counts.new) m ≡ entering places.now m }
 {
     counts.fill([0, 0]);
-    // By number: an iterator of moves would be a type with a contract for this
-    // one loop.
     for v in 0..places.len() {
         count_moves(places.moves(v), counts);
     }
