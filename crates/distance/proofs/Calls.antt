@@ -2,7 +2,7 @@
 use Rattle.std.proofs.Common.{◌≡◌, ℕ, ◌+◌, ◌*◌, ◌≤◌, Err, Result, List, length, refl, arith}
 use Rattle.endless.specs.declared.refusal.Refusal.{Refusal}
 use Rattle.endless.specs.declared.refusal.Refusal.TheVariants.{Few, NoGame, NoPlace, OutFull}
-use Rattle.endless.specs.Layout.{Accepts}
+use Rattle.endless.specs.Accepting.{Accepts}
 use Rattle.distance.specs.Distances.{DistancesSays, DistancesPost}
 
 -- the words cannot be worked on

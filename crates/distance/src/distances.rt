@@ -1,6 +1,5 @@
 //! In how many moves a side can make sure that the play comes to a place.
 ghost use Rattle.std.specs.Prelude.{ℕ, ◌*◌, ◌<◌, ◌≤◌, length};
-ghost use Rattle.endless.specs.Layout.{lent_for};
 ghost use Rattle.endless.specs.Says.{goes};
 ghost use Rattle.endless.specs.Sides.{number as side-number};
 ghost use Rattle.endless.specs.Pulling.{Unchanged};
@@ -8,11 +7,11 @@ ghost use Rattle.distance.specs.Spreading.{number, Measured, Roomy};
 ghost use Rattle.distance.specs.Distances.{DistancesPost};
 
 use crate::spread::{clear, spread};
+use endless::accepted::Accepted;
 use endless::answer::PlaceId;
 use endless::graph::Graph;
 use endless::layout::Layout;
 use endless::side::Side;
-use endless::words::GameWords;
 use endless::{Refusal, layout};
 
 /// The least number of moves in which `side` can make sure that the play
@@ -31,29 +30,28 @@ pub fn distances_to(
 ) -> Result<(), Refusal>
     ensures { DistancesPost words.now (length work.old) (side-number side) target.0 out.old out.new result }
 {
-    let game = layout::accept(words, work.len())?;
-    if target.0 >= game.len() {
+    let accepted = layout::accept(words, work)?;
+    if target.0 >= accepted.game.len() {
         return Err(Refusal::NoPlace);
     }
-    layout::out_room(game.len(), out.len())?;
-    measure(game, side, target.0, out, work);
+    layout::out_room(accepted.game.len(), out.len())?;
+    measure(accepted, side, target.0, out);
     Ok(())
 }
 
 /// Lays a game out, and numbers its places from the target.
-fn measure<'a>(game: GameWords<'a>, side: Side, target: u32, out: &mut [u32], work: &'a mut [u32])
-    requires target { target < length game }
-    requires out { 2 * length game ≤ length out.old }
-    requires lent { lent_for game ≤ length work.old }
-    ensures behind { (n : ℕ) → length game.entry ≤ n → Unchanged out.old out.new n }
-    ensures measured { Measured game.entry (side-number side) target (number out.new) (goes out.new) }
+fn measure(accepted: Accepted, side: Side, target: u32, out: &mut [u32])
+    requires target { target < length accepted.game }
+    requires out { 2 * length accepted.game ≤ length out.old }
+    ensures behind { (n : ℕ) → length accepted.entry.game ≤ n → Unchanged out.old out.new n }
+    ensures measured { Measured accepted.entry.game (side-number side) target (number out.new) (goes out.new) }
 {
     let Layout {
         graph,
         queue,
         escapes,
         ..
-    } = layout::lay_out(game, work);
+    } = layout::lay_out(accepted);
     number_from(&graph, side, target, out, queue, escapes);
 }
 
@@ -71,7 +69,7 @@ fn number_from(
     ensures behind { (n : ℕ) → length graph.now ≤ n → Unchanged out.old out.new n }
     ensures measured { Measured graph.now (side-number side) target (number out.new) (goes out.new) }
 {
-    clear(graph, out, awaited);
+    clear(graph.places(), out, awaited);
     out[2 * target as usize] = 0;
     queue[0] = target;
     spread(graph, side, out, queue, awaited);

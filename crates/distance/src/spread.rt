@@ -10,7 +10,7 @@ ghost use Rattle.endless.specs.Pulling.{Unchanged};
 ghost use Rattle.distance.specs.Spreading.{number, Measured, Spread, Looks, Roomy, Waited};
 ghost use Rattle.distance.specs.Distances.{Cleared};
 
-use endless::graph::Graph;
+use endless::graph::{Graph, Places};
 use endless::side::Side;
 
 /// The number that says that a side cannot make sure of the target.
@@ -18,20 +18,20 @@ use endless::side::Side;
 pub const NEVER: u32 = 0xffff_ffff;
 
 /// Gives no place a number, each its first move, and counts its moves.
-pub fn clear(graph: &Graph, out: &mut [u32], awaited: &mut [u32])
-    requires answers { 2 * length graph.now ≤ length out.old }
-    requires counts { length graph.now ≤ length awaited.old }
-    ensures cleared { Cleared graph.now (length graph.now) out.old out.new awaited.new }
-    ensures playable { Playable graph.now }
+pub fn clear(places: &Places, out: &mut [u32], awaited: &mut [u32])
+    requires answers { 2 * length places.now ≤ length out.old }
+    requires counts { length places.now ≤ length awaited.old }
+    ensures cleared { Cleared places.now (length places.now) out.old out.new awaited.new }
+    ensures playable { Playable places.now }
 {
     // By place: tried with `zip`, and of what an adapter of `iter_mut` writes
     // nothing is known.
-    for place in 0..graph.len() {
+    for place in 0..places.len() {
         let at = 2 * place as usize;
-        let moves = graph.moves(place);
+        let moves = places.moves(place);
         out[at] = NEVER;
         out[at + 1] = moves[0];
-        awaited[place as usize] = graph.head(place).moves;
+        awaited[place as usize] = places.head(place).moves;
     }
 }
 

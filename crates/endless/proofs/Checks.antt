@@ -9,9 +9,10 @@ use Rattle.endless.specs.Sets.{Set, In, Within, whole, having}
 use Rattle.endless.specs.Subgames.{Holds, Solves}
 use Rattle.endless.specs.Sides.{number}
 use Rattle.endless.specs.Bits.{members, size}
+use Rattle.endless.specs.Accepting.{Accepts}
 use Rattle.endless.specs.Flaws.{FlawIs}
-use Rattle.endless.specs.Layout.{Accepts}
 use Rattle.endless.specs.Checked.{IsAnswer, ReasonIs, SideChecked, CheckedPost}
+use Rattle.endless.specs.declared.accepted.Accepted.{Accepted}
 use Rattle.endless.specs.declared.flaw.Flaw.{Flaw}
 use Rattle.endless.specs.declared.flaw.Flaw.TheVariants.{NoMove, Leaves, Escape, LosingRound}
 use Rattle.endless.specs.declared.verdict.Reason.{Reason}
@@ -126,20 +127,20 @@ both_hold g o two even odd = record { one_of_two = λ n x. two n (whole_place g 
 
 -- ---- what `check` promises
 
-pub wrong_checked : (s : List ℕ) (lent : ℕ) (g : Game) (o : List ℕ) → Accepts s lent (Ok g) → (r : Reason) → ReasonIs g o r → CheckedPost s lent o (Err (Wrong r))
-wrong_checked s lent g o a r is =
+pub wrong_checked : (s : List ℕ) (lent : ℕ) (accepted : Accepted) (o : List ℕ) → Accepts s lent (Ok accepted) → (r : Reason) → ReasonIs accepted.game o r → CheckedPost s lent o (Err (Wrong r))
+wrong_checked s lent accepted o a r is =
     let refutes = reason_refutes a.1 r is in
     record {
-      says = (g, a.1, is, refutes);
+      says = (accepted.game, a.1, is, refutes);
       few = (λ x. absurd (omega arith), λ e. cc);
-      right = λ l h reads. (λ e. cc, λ b. absurd (refutes (subst (λ (x : Game). IsAnswer x o) (one_game s h g reads a.1) b)));
-      no_game = λ l. (λ e. cc, λ n. absurd (n g a.1));
+      right = λ l h reads. (λ e. cc, λ b. absurd (refutes (subst (λ (x : Game). IsAnswer x o) (one_game s h accepted.game reads a.1) b)));
+      no_game = λ l. (λ e. cc, λ n. absurd (n accepted.game a.1));
     }
 
-pub right_checked : (s : List ℕ) (lent : ℕ) (g : Game) (o : List ℕ) → Accepts s lent (Ok g) → IsAnswer g o → CheckedPost s lent o (Ok tt)
-right_checked s lent g o a is = record {
-  says = (g, a.1, is);
+pub right_checked : (s : List ℕ) (lent : ℕ) (accepted : Accepted) (o : List ℕ) → Accepts s lent (Ok accepted) → IsAnswer accepted.game o → CheckedPost s lent o (Ok tt)
+right_checked s lent accepted o a is = record {
+  says = (accepted.game, a.1, is);
   few = (λ x. absurd (omega arith), λ e. cc);
-  right = λ l h reads. (λ e. subst (λ (x : Game). IsAnswer x o) (one_game s g h a.1 reads) is, λ b. refl);
-  no_game = λ l. (λ e. cc, λ n. absurd (n g a.1));
+  right = λ l h reads. (λ e. subst (λ (x : Game). IsAnswer x o) (one_game s accepted.game h a.1 reads) is, λ b. refl);
+  no_game = λ l. (λ e. cc, λ n. absurd (n accepted.game a.1));
 }

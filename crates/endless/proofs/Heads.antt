@@ -1,12 +1,18 @@
 -- The heads of places whose words stand one after the other.
-use Rattle.std.proofs.Common.{◌≡◌, ℕ, suc, ◌+◌, ◌-◌, ◌<◌, ◌≤◌, ◌⊎◌, List, [], ◌∷◌, length, get_or, drop, map, sym, refl, ap, ◌∙◌, subst, ap₂, inl, inr, add-one, arith}
+use Rattle.std.proofs.Common.{◌≡◌, ℕ, suc, ◌+◌, ◌-◌, ◌<◌, ◌≤◌, ◌⊎◌, List, [], ◌∷◌, length, get_or, drop, Some, None, Option, map, sym, refl, ap, ◌∙◌, subst, ap₂, inl, inr, add-one, arith}
 use Rattle.std.proofs.lemmas.List.{drop_all, drop_at, drop-drop, length-append}
 use Rattle.std.proofs.lemmas.Bool.{cases_lt}
-use Rattle.endless.specs.Games.{Place, Game, opt, row, weight}
+use Rattle.std.specs.Option.{IsSome}
+use Rattle.endless.specs.Games.{Place, Game, opt, row, whose, weight}
 use Rattle.endless.specs.Graph.{moves}
-use Rattle.endless.specs.Heads.{Rows, head_of, heads_in}
+use Rattle.endless.specs.Heads.{Begins, HeadIs, Rows, head_of, heads_in}
+use Rattle.endless.specs.Sides.{number}
+use Rattle.endless.specs.View.{Playable}
+use Rattle.endless.specs.declared.place.Head.{Head}
 use Rattle.endless.specs.declared.place.HeadWords.{HeadWords}
-use Rattle.endless.proofs.Reading.{there}
+use Rattle.endless.proofs.Among.{among_at}
+use Rattle.endless.proofs.Places.{side_below, weight_below, has_move}
+use Rattle.endless.proofs.Reading.{there, front_owner, front_weighs, front_many}
 use Rattle.endless.proofs.View.{places_in_row}
 
 -- the heads of places are those that their words begin with
@@ -64,3 +70,20 @@ turn g i head rest e = go (cases_lt i (length g))
 pub heads_none : (n : ℕ) (s : List ℕ) → Rows n s → n ≡ 0 → heads_in n s ≡ []
 heads_none n s ([], e, is) z = heads_are n s [] e is
 heads_none n s (p ∷ ps, e, is) z = absurd (omega arith)
+
+-- the words from a place on begin with its head, and with no other
+module _ (g : Game) (n : ℕ) (h : n < length g) {s : List ℕ} (is : s ≡ row (drop n g)) where
+  pub head_there : Playable g → (o : Option Head) → HeadIs s o → IsSome o
+  head_there reads None none =
+      let t = there g n h in
+      let some = has_move reads n h in
+      absurd (none _ _ _ _ (is ∙ ap row t.rest)
+          (omega (arith, ap (λ o. opt o 0 (λ p. p.whose)) t.is, side_below reads n))
+          (omega (arith, ap (λ o. opt o 0 (λ p. p.weight)) t.is, weight_below reads n))
+          (omega (arith, ap (λ o. length (opt o [] (λ p. p.moves))) t.is, (among_at some.0 (moves g n) some.1).1)))
+  head_there reads (Some head) b = refl
+
+  pub head_is : (head : Head) → Begins s head → (number head.whose ≡ whose g n) × (head.weight ≡ weight g n) × (head.moves ≡ length (moves g n))
+  head_is head b =
+      let words = sym b.is ∙ is in
+      (ap (λ l. get_or l 0 0) words ∙ front_owner g n h, ap (λ l. get_or l 1 0) words ∙ front_weighs g n h, ap (λ l. get_or l 2 0) words ∙ front_many g n h)

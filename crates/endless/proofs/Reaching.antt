@@ -13,7 +13,8 @@ use Rattle.endless.specs.Bits.{members, Removed, Least, NoneFrom}
 use Rattle.endless.specs.Pulling.{Unchanged, Starts, Moved, Attracts}
 use Rattle.endless.specs.Levels.{Stays, Given}
 use Rattle.endless.specs.declared.desk.Desk.{Desk}
-use Rattle.endless.specs.Layout.{Accepts, Fresh}
+use Rattle.endless.specs.Layout.{Fresh}
+use Rattle.endless.specs.Accepting.{Accepts}
 use Rattle.endless.specs.Reaching.{Handed, Reaches, ReachedSays, ReachPost}
 use Rattle.endless.proofs.Tests.{true_T, T_true}
 use Rattle.endless.proofs.Places.{from_place, has_move, to_place, is_other, not_other, other_below}

@@ -9,7 +9,7 @@ use Rattle.endless.specs.Says.{side, goes}
 use Rattle.endless.specs.Sets.{whole}
 use Rattle.endless.specs.Subgames.{Solves}
 use Rattle.endless.specs.Pulling.{Unchanged}
-use Rattle.endless.specs.Layout.{Accepts}
+use Rattle.endless.specs.Accepting.{Accepts}
 use Rattle.endless.specs.Promises.{SolvedPost}
 use Rattle.endless.proofs.Sets.{whole_in}
 use Rattle.endless.proofs.Steps.{solves_wins}

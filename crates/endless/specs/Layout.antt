@@ -10,8 +10,6 @@ use Rattle.endless.specs.Levels.{levels}
 use Rattle.endless.specs.declared.desk.Desk.{Desk}
 use Rattle.endless.specs.declared.layout.Layout.{Layout}
 use Rattle.endless.specs.declared.layout.Short.{Short}
-use Rattle.endless.specs.declared.refusal.Refusal.{Refusal}
-use Rattle.endless.specs.declared.refusal.Refusal.TheVariants.{Few, NoGame, NoPlace, OutFull}
 
 -- how many words a set of n places takes
 abbrev pub width : ℕ → ℕ
@@ -37,14 +35,6 @@ LevelsFall = (g : Game) (n h bound : ℕ) → n < length g → weight g n ≡ h 
 abbrev pub OutRoomIs : ℕ → ℕ → Result (Unit {0}) Short → Type 0
 OutRoomIs n given (Ok u) = 2 * n ≤ given
 OutRoomIs n given (Err e) = (e.needed ≡ 2 * n) × (e.given ≡ given) × (given < 2 * n)
-
--- the game that words are, where they can be worked on: enough are lent, and they are a game
-abbrev pub Accepts : List ℕ → ℕ → Result Game Refusal → Type 0
-Accepts s lent (Ok g) = (65536 + 4 * length s ≤ lent) × Reads s g
-Accepts s lent (Err Few) = lent < 65536 + 4 * length s
-Accepts s lent (Err NoGame) = (65536 + 4 * length s ≤ lent) × ((g : Game) → Reads s g → ⊥)
-Accepts s lent (Err NoPlace) = ⊥
-Accepts s lent (Err OutFull) = ⊥
 
 -- a game is laid out in so many lent words: its graph, room for its queue and its cursors, the set of all places, and room for a set for each level; these parts take what is needed, and no more
 pub record LaidOut (lent : ℕ) (g : Game) (r : Layout) : Type 0 where

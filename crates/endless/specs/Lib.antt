@@ -22,6 +22,7 @@ pub mod Levels
 pub mod Gatherings
 pub mod Parts
 pub mod Layout
+pub mod Accepting
 pub mod Reaching
 pub mod Flaws
 pub mod Tracing

@@ -5,7 +5,7 @@ ghost use Rattle.endless.specs.Graph.{positions, moves, Placed, Preds, times, up
 ghost use Rattle.endless.specs.Sides.{number};
 ghost use Rattle.endless.specs.View.{Playable};
 
-use crate::place::{Head, HeadWords};
+use crate::place::Head;
 use crate::positions::{Halves, halves, position};
 use crate::side::Side;
 use crate::words::GameWords;
@@ -25,8 +25,8 @@ pub fn find_starts(game: &GameWords, starts: &mut [Halves])
     ensures { Placed game.now (positions starts.new) }
 {
     let mut at = 1;
-    // By number: tried `zip`, and that `at` fits was not shown without an
-    // invariant, which is said by this number.
+    // By number: tried with `zip`, and of what an adapter of `iter_mut` writes
+    // nothing is known.
     for (i, head) in game.heads().enumerate() {
         starts[i] = halves(at);
         at += 3 + head.moves as usize;
@@ -77,18 +77,7 @@ impl<'a> Places<'a> {
         ensures moves { result.moves ≡ length (moves self.now n) }
         ensures playable { Playable self.now }
     {
-        // No `Head::read`, which tests the words once more: tried, and a check of
-        // an answer took 201 ms where it takes 123.
-        let head = HeadWords::read(self.words_from(n));
-        Head {
-            whose: if head.whose == 0 {
-                Side::Even
-            } else {
-                Side::Odd
-            },
-            weight: head.weight,
-            moves: head.moves,
-        }
+        Head::read(self.words_from(n)).unwrap()
     }
 
     /// The weight of a place.
@@ -275,8 +264,6 @@ fn count_entering(places: &Places, counts: &mut [Halves])
     ensures { (m : ℕ) → slice_index (positions counts.new) m ≡ entering places.now m }
 {
     counts.fill([0, 0]);
-    // By number: an iterator of moves would be a type with a contract for this
-    // one loop.
     for v in 0..places.len() {
         count_moves(places.moves(v), counts);
     }

@@ -4,8 +4,10 @@ ghost use Rattle.endless.specs.Says.{side, goes};
 ghost use Rattle.endless.specs.Sets.{whole};
 ghost use Rattle.endless.specs.Subgames.{Solves};
 ghost use Rattle.endless.specs.Pulling.{Unchanged};
-ghost use Rattle.endless.specs.Layout.{lent_for, Accepts, OutRoomIs, LaidOut};
+ghost use Rattle.endless.specs.Layout.{OutRoomIs, LaidOut};
+ghost use Rattle.endless.specs.Accepting.{Accepts};
 
+use crate::accepted::Accepted;
 use crate::by_parts::level_by_parts;
 use crate::desk::Desk;
 use crate::graph::{Graph, Places};
@@ -21,15 +23,16 @@ pub fn is_enough(words: usize, lent: usize) -> bool
     lent >= 65536 && (lent - 65536) / 4 >= words
 }
 
-/// These words as a game, if they can be worked on: enough are lent, and they
-/// are a game.
-pub fn accept(words: &[u32], lent: usize) -> Result<GameWords<'_>, Refusal>
-    ensures { Accepts words.now lent result }
+/// These words as a game, with the words that are lent, if it can be worked
+/// on: enough are lent, and they are a game.
+pub fn accept<'a>(words: &'a [u32], work: &'a mut [u32]) -> Result<Accepted<'a>, Refusal>
+    ensures { Accepts words.now (length work.old) result }
 {
-    if !is_enough(words.len(), lent) {
+    if !is_enough(words.len(), work.len()) {
         return Err(Refusal::Few);
     }
-    GameWords::read(words).ok_or(Refusal::NoGame)
+    let game = GameWords::read(words).ok_or(Refusal::NoGame)?;
+    Ok(Accepted { game, work })
 }
 
 /// An answer has no room: how many words it takes, and how many there are.
@@ -63,10 +66,10 @@ pub struct Layout<'a> {
 
 /// Cuts the lent words for a game, and makes its graph there.
 #[tactic(auto, using(crate::proofs::Layouts::sets_fit))]
-pub fn lay_out<'a>(game: GameWords<'a>, work: &'a mut [u32]) -> Layout<'a>
-    requires { lent_for game ≤ length work.old }
-    ensures { LaidOut (length work.old) game.entry result }
+pub fn lay_out<'a>(accepted: Accepted<'a>) -> Layout<'a>
+    ensures { LaidOut (length accepted.entry.work.now) accepted.entry.game result }
 {
+    let Accepted { game, work } = accepted;
     let places = game.len() as usize;
     let moves = game.move_count();
     let (starts, work) = work.split_at_mut(2 * places);
@@ -91,20 +94,19 @@ pub fn lay_out<'a>(game: GameWords<'a>, work: &'a mut [u32]) -> Layout<'a>
 
 /// Solves a game: lays it out, with a set for each level, and goes through
 /// these.
-pub(crate) fn solve_game<'a>(game: GameWords<'a>, out: &mut [u32], work: &'a mut [u32])
-    requires out { 2 * length game ≤ length out.old }
-    requires lent { lent_for game ≤ length work.old }
-    ensures frame { (n : ℕ) → length game.entry ≤ n → Unchanged out.old out.new n }
-    ensures solves { Solves game.entry (whole game.entry) (side out.new) (goes out.new) }
+pub(crate) fn solve_game(accepted: Accepted, out: &mut [u32])
+    requires out { 2 * length accepted.game ≤ length out.old }
+    ensures frame { (n : ℕ) → length accepted.entry.game ≤ n → Unchanged out.old out.new n }
+    ensures solves { Solves accepted.entry.game (whole accepted.entry.game) (side out.new) (goes out.new) }
 {
-    let levels = weights::levels(&game);
+    let levels = weights::levels(&accepted.game);
     let Layout {
         graph,
         queue,
         escapes,
         all,
         rest,
-    } = lay_out(game, work);
+    } = lay_out(accepted);
     let (sets, spare) = rest.split_at_mut(levels * all.len());
     let places = graph.len();
     let mut effort = Effort::new(places);

@@ -9,6 +9,7 @@
 ghost use Rattle.std.specs.Prelude.{length};
 ghost use Rattle.endless.specs.Promises.{SolvedPost};
 
+pub mod accepted;
 pub mod answer;
 pub mod attractor;
 pub mod bits;
@@ -51,8 +52,8 @@ pub use words::is_game;
 pub fn solve(words: &[u32], out: &mut [u32], work: &mut [u32]) -> Result<(), Refusal>
     ensures { SolvedPost words.now (length work.old) out.old out.new result }
 {
-    let game = layout::accept(words, work.len())?;
-    layout::out_room(game.len(), out.len())?;
-    layout::solve_game(game, out, work);
+    let accepted = layout::accept(words, work)?;
+    layout::out_room(accepted.game.len(), out.len())?;
+    layout::solve_game(accepted, out);
     Ok(())
 }

@@ -7,9 +7,10 @@ ghost use Rattle.endless.specs.Bits.{members};
 ghost use Rattle.endless.specs.View.{Playable};
 ghost use Rattle.endless.specs.Pulling.{Unchanged};
 ghost use Rattle.endless.specs.Desks.{SameDesk};
-ghost use Rattle.endless.specs.Layout.{lent_for, Fresh};
+ghost use Rattle.endless.specs.Layout.{Fresh};
 ghost use Rattle.endless.specs.Reaching.{Handed, Reaches, ReachPost};
 
+use crate::accepted::Accepted;
 use crate::answer::PlaceId;
 use crate::attractor::attract;
 use crate::desk::Desk;
@@ -18,7 +19,6 @@ use crate::graph::Graph;
 use crate::layout::Layout;
 use crate::refusal::Refusal;
 use crate::side::Side;
-use crate::words::GameWords;
 use crate::{bits, layout};
 
 /// From where `side` can bring every play to `target`, whatever the other side
@@ -36,29 +36,22 @@ pub fn attract_to(
 ) -> Result<(), Refusal>
     ensures { ReachPost words.now (length work.old) (number side) target.0 out.old out.new result }
 {
-    let game = layout::accept(words, work.len())?;
-    if target.0 >= game.len() {
+    let accepted = layout::accept(words, work)?;
+    if target.0 >= accepted.game.len() {
         return Err(Refusal::NoPlace);
     }
-    layout::out_room(game.len(), out.len())?;
-    divide_game(game, side, target.0, out, work);
+    layout::out_room(accepted.game.len(), out.len())?;
+    divide_game(accepted, side, target.0, out);
     Ok(())
 }
 
 /// Lays a game out and divides it between the sides: `winner` can bring every
 /// play to `target` from the places given to it, and from no others.
-fn divide_game<'a>(
-    game: GameWords<'a>,
-    winner: Side,
-    target: u32,
-    out: &mut [u32],
-    work: &'a mut [u32],
-)
-    requires target { target < length game }
-    requires out { 2 * length game ≤ length out.old }
-    requires lent { lent_for game ≤ length work.old }
-    ensures frame { (n : ℕ) → length game.entry ≤ n → Unchanged out.old out.new n }
-    ensures reaches { Reaches game.entry (number winner) target (side out.new) (goes out.new) }
+fn divide_game(accepted: Accepted, winner: Side, target: u32, out: &mut [u32])
+    requires target { target < length accepted.game }
+    requires out { 2 * length accepted.game ≤ length out.old }
+    ensures frame { (n : ℕ) → length accepted.entry.game ≤ n → Unchanged out.old out.new n }
+    ensures reaches { Reaches accepted.entry.game (number winner) target (side out.new) (goes out.new) }
 {
     let Layout {
         graph,
@@ -66,7 +59,7 @@ fn divide_game<'a>(
         escapes,
         all,
         ..
-    } = layout::lay_out(game, work);
+    } = layout::lay_out(accepted);
     let mut desk = Desk {
         out,
         queue,

@@ -6,11 +6,11 @@ ghost use Rattle.endless.specs.Sets.{In, whole};
 ghost use Rattle.endless.specs.Subgames.{Solves};
 ghost use Rattle.endless.specs.Sides.{number};
 ghost use Rattle.endless.specs.Bits.{members};
-ghost use Rattle.endless.specs.Layout.{lent_for};
 ghost use Rattle.endless.specs.Checked.{Tabled, ReasonIs, SideChecked, CheckedPost};
 ghost use Rattle.endless.specs.declared.verdict.Reason.TheVariants as reasons;
 ghost use Rattle.endless.specs.declared.verdict.Rejection.TheVariants.{Refused, Wrong};
 
+use crate::accepted::Accepted;
 use crate::answer::{PlaceId, Winner, won_by};
 use crate::claim::Claim;
 use crate::examination::Examination;
@@ -19,7 +19,6 @@ use crate::graph::Graph;
 use crate::layout::{Layout, Short};
 use crate::refusal::Refusal;
 use crate::side::Side;
-use crate::words::GameWords;
 use crate::{bits, layout};
 
 /// Why an answer is none.
@@ -73,9 +72,9 @@ impl From<Short> for Rejection {
 pub fn check(words: &[u32], answer: &[u32], work: &mut [u32]) -> Result<(), Rejection>
     ensures { CheckedPost words.now (length work.old) answer.now result }
 {
-    let game = layout::accept(words, work.len())?;
-    layout::out_room(game.len(), answer.len())?;
-    check_game(game, answer, work)?;
+    let accepted = layout::accept(words, work)?;
+    layout::out_room(accepted.game.len(), answer.len())?;
+    check_game(accepted, answer)?;
     Ok(())
 }
 
@@ -146,12 +145,11 @@ impl Checking<'_> {
 }
 
 /// Whether an answer with two words for each place is one, or why not.
-fn check_game<'a>(game: GameWords<'a>, answer: &'a [u32], work: &'a mut [u32]) -> Result<(), Reason>
-    requires answer { 2 * length game ≤ length answer.now }
-    requires lent { lent_for game ≤ length work.old }
-    ensures { MatchResult result (λ _. Solves game.entry (whole game.entry) (says answer.now) (goes answer.now)) (λ reason. ReasonIs game.entry answer.now reason) }
+fn check_game<'a>(accepted: Accepted<'a>, answer: &'a [u32]) -> Result<(), Reason>
+    requires { 2 * length accepted.game ≤ length answer.now }
+    ensures { MatchResult result (λ _. Solves accepted.entry.game (whole accepted.entry.game) (says answer.now) (goes answer.now)) (λ reason. ReasonIs accepted.entry.game answer.now reason) }
 {
-    let places = game.len();
+    let places = accepted.game.len();
     if let Some(place) = first_sideless(answer, places) {
         return Err(Reason::NoSide(PlaceId(place)));
     }
@@ -161,7 +159,7 @@ fn check_game<'a>(game: GameWords<'a>, answer: &'a [u32], work: &'a mut [u32]) -
         all,
         rest,
         ..
-    } = layout::lay_out(game, work);
+    } = layout::lay_out(accepted);
     let (set, rest) = rest.split_at_mut(all.len());
     let (left, rest) = rest.split_at_mut(all.len());
     let (queue, lent) = rest.split_at_mut(places as usize + 1);

@@ -38,8 +38,10 @@ impl<'a> Model for GameWords<'a> {
 
     ghost Value = { Game };
 
-    // The game alone, without the fact that words hold it: each call that needs
-    // this fact tells it or asks for it (`Playable`).
+    // The game alone, a plain value, so that a clause can say `length graph.now`.
+    // A value that carried the fact that words hold it would have to be taken
+    // apart in each clause (`graph.now.game`); so each call that needs this fact
+    // tells it or asks for it (`Playable`).
     ghost view = { λ w. game_in w.words.now };
 
     ghost invariant = { λ w. Reads w.words.now (game_in w.words.now) };
@@ -53,7 +55,15 @@ impl<'a> GameWords<'a> {
         if !is_game(words) {
             return None;
         }
-        Some(GameWords { words })
+        Some(GameWords::known(words))
+    }
+
+    /// These words, which are known to be a game: they are not tested.
+    pub fn known(words: &'a [u32]) -> GameWords<'a>
+        requires { (g : Game) × Reads words.now g }
+        ensures { Reads words.now result }
+    {
+        GameWords { words }
     }
 
     /// How many places there are.

@@ -7,8 +7,8 @@ use Rattle.distance.proofs.distances.distances_to.Goals as goal
 
 pub returns : goal.returns
 returns c =
-    let t = c.in_ok-game.ensures in
-    let g = c.in_ok-game.game in
+    let t = c.in_ok-accepted.ensures in
+    let g = c.in_ok-accepted.accepted.game in
     said t.0 (λ e. cc) (
       g,
       t.1,

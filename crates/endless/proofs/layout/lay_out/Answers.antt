@@ -15,6 +15,6 @@ returns c =
       are = λ j. c.fill.ensures.are j ∙ ap (ltb j) many;
       many = c.fill.ensures.many ∙ many;
       wide = omega (arith, c.div_ceil.ensures);
-      rest = omega (arith, c.move_count-moves.ensures, sets_fit c.args.game c.len-places.ensures.playable, c.requires, c.div_ceil.ensures);
-      spare = omega (arith, c.requires, words_length c.args.game, c.move_count-moves.ensures, c.div_ceil.ensures);
+      rest = omega (arith, c.move_count-moves.ensures, sets_fit c.args.accepted.game c.len-places.ensures.playable, c.args.accepted.enough, c.div_ceil.ensures);
+      spare = omega (arith, c.args.accepted.enough, words_length c.args.accepted.game, c.move_count-moves.ensures, c.div_ceil.ensures);
     }

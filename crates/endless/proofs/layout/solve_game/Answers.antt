@@ -11,7 +11,7 @@ pub level_by_parts-requires-clause-room : goal.level_by_parts-requires-clause-ro
 level_by_parts-requires-clause-room c =
     let laid = c.lay_out-graph.result in
     let is = c.lay_out-graph.ensures.is in
-    first_room laid _ _ c.len-places.ensures.playable (laid_graph laid c.lay_out-graph.ensures) (omega (arith, c.requires.out, ap length is)) refl refl
+    first_room laid _ _ c.len-places.ensures.playable (laid_graph laid c.lay_out-graph.ensures) (omega (arith, c.requires, ap length is)) refl refl
     (c.split_at_mut-sets.ensures.front_len ∙ ap (λ (k : ℕ). k * length laid.all.now) (c.levels-levels.ensures ∙ ap kinds (sym is)))
 
 pub returns-clause-solves : goal.returns-clause-solves
@@ -20,4 +20,4 @@ returns-clause-solves c =
     let are = (laid_graph laid c.lay_out-graph.ensures).are in
     let out = c.level_by_parts.new.desk.out.now in
     let solved : Solves laid.graph (whole laid.graph) (side out) (goes out) = filled_solved laid.graph laid.all.now are out (c.level_by_parts.ensures.solves (filled_subgame laid.graph laid.all.now are c.len-places.ensures.playable)) in
-    subst (λ (o : List ℕ). Solves c.args.game (whole c.args.game) (side o) (goes o)) (search rules) (subst (λ (g : Game). Solves g (whole g) (side out) (goes out)) c.lay_out-graph.ensures.is solved)
+    subst (λ (o : List ℕ). Solves c.args.accepted.game (whole c.args.accepted.game) (side o) (goes o)) (search rules) (subst (λ (g : Game). Solves g (whole g) (side out) (goes out)) c.lay_out-graph.ensures.is solved)

@@ -4,26 +4,26 @@ use Rattle.endless.proofs.Solving.{behind_same}
 use Rattle.endless.proofs.Reaching.{reached, unaccepted}
 use Rattle.endless.proofs.reach.attract_to.Goals as goal
 
-pub returns-in_err-game : goal.returns-in_err-game
-returns-in_err-game c =
+pub returns-in_err-accepted : goal.returns-in_err-accepted
+returns-in_err-accepted c =
     let p = err_from_is_err_and c.from_residual.result c.from_residual.ensures.1 in
-    rw (p.1, p.2) (unaccepted _ c.in_err-game.ensures)
+    rw (p.1, p.2) (unaccepted _ c.in_err-accepted.ensures)
 
 pub returns-then-target-len : goal.returns-then-target-len
 returns-then-target-len c =
-    let t = c.in_ok-game.ensures in
-    reached t.0 (λ e. cc) (c.in_ok-game.game, t.1, omega (arith, c.len.ensures.len), refl)
+    let t = c.in_ok-accepted.ensures in
+    reached t.0 (λ e. cc) (c.in_ok-accepted.accepted.game, t.1, omega (arith, c.len.ensures.len), refl)
 
 pub returns-in_err-out_room : goal.returns-in_err-out_room
 returns-in_err-out_room c =
-    let t = c.in_ok-game.ensures in
+    let t = c.in_ok-accepted.ensures in
     let p = err_from_is_err_and c.from_residual-in_err-out_room.result c.from_residual-in_err-out_room.ensures.1 in
-    rw (p.1, p.2) (reached t.0 (λ e. cc) (c.in_ok-game.game, t.1, omega arith, omega (arith, c.in_err-out_room.ensures), refl))
+    rw (p.1, p.2) (reached t.0 (λ e. cc) (c.in_ok-accepted.accepted.game, t.1, omega arith, omega (arith, c.in_err-out_room.ensures), refl))
 
 pub returns : goal.returns
 returns c =
-    let t = c.in_ok-game.ensures in
-    let g = c.in_ok-game.game in
+    let t = c.in_ok-accepted.ensures in
+    let g = c.in_ok-accepted.accepted.game in
     reached t.0 (λ e. cc) (
       g,
       t.1,
