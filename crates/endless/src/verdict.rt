@@ -131,6 +131,7 @@ impl Checking<'_> {
             side: winner,
             answer: self.answer,
             set,
+            within: self.all,
         };
         let mut examination = Examination {
             claim,
@@ -140,7 +141,7 @@ impl Checking<'_> {
             lent: self.lent,
         };
         examination
-            .find_flaw(self.all)
+            .find_flaw()
             .map_err(|flaw| Reason::Plan { side: winner, flaw })
     }
 }
