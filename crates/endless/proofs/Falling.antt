@@ -1,5 +1,8 @@
 -- Ranks that do not rise along a plan's moves and fall at the places of a weight: no round has that weight as its heaviest.
-use Rattle.std.proofs.Common.{◌≡◌, ℕ, ◌<◌, ◌≤◌, List, length, get_or, sym, subst, arith}
+use Rattle.std.proofs.Common.{◌≡◌, ℕ, ◌<◌, ◌≤◌, Bool, true, false, List, length, sym, refl, subst, arith}
+use Rattle.std.specs.Bool.{MatchBool}
+use Rattle.std.specs.List.{AllWithin}
+use Rattle.std.proofs.lemmas.Bool.{both_ways}
 use Rattle.endless.specs.Games.{Game, whose, weight, Among}
 use Rattle.endless.specs.Says.{Round, last, then1}
 use Rattle.endless.specs.Sets.{Set, In, Each}
@@ -31,7 +34,9 @@ module _ (g : Game) (X : Set) (w : ℕ) (plan : ℕ → ℕ) (k : ℕ) (ranks : 
 abbrev pub Along : Game → Set → ℕ → (ℕ → ℕ) → ℕ → List ℕ → ℕ → ℕ → Type 0
 Along g X w plan k ranks n m = (whose g n ≡ w → m ≡ plan n) → In X m → weight g m ≤ k → Follows g k ranks n m
 
-pub along_all : (g : Game) (X : Set) (w : ℕ) (plan : ℕ → ℕ) (k : ℕ) (ranks : List ℕ) (n : ℕ) (items : List ℕ) → items ≡ moves g n → ((j : ℕ) → j < length items → Along g X w plan k ranks n (get_or items j 0)) → FallsAt g X w plan k ranks n
-along_all g X w plan k ranks n items e all m step =
+pub along_all : (g : Game) (X : Set) (w : ℕ) (plan : ℕ → ℕ) (k : ℕ) (ranks : List ℕ) (n : ℕ) (items : List ℕ) → items ≡ moves g n → ((m : ℕ) → In X m → m < length g) → (Some_one : Type 0) (r : Bool)
+    → MatchBool r (AllWithin (λ m. m < length g → Along g X w plan k ranks n m) items 0 (length items)) Some_one → r ≡ true → FallsAt g X w plan k ranks n
+along_all g X w plan k ranks n items e inside Some_one true all is m step x =
     let t = among_at m items (subst (λ (y : List ℕ). Among m y) (sym e) step.0) in
-    subst (λ (j : ℕ). Along g X w plan k ranks n j) t.2 (all t.0 t.1) step.1
+    subst (λ (j : ℕ). j < length g → Along g X w plan k ranks n j) t.2 (all t.0 0 (omega arith) t.1) (inside m x) step.1 x
+along_all g X w plan k ranks n items e inside Some_one false some is m step x = absurd (both_ways false refl is)

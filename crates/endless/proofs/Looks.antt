@@ -1,10 +1,11 @@
 -- A plan at each place of a set: it stays there, or what is wrong.
-use Rattle.std.proofs.Common.{◌≡◌, ℕ, zero, suc, ◌+◌, ◌*◌, ◌<◌, true, false, nat_eq, List, [], ◌∷◌, Option, Result, Some, None, Ok, Err, length, get_or, sym, refl, ap, ◌∙◌, subst, arith}
+use Rattle.std.proofs.Common.{◌≡◌, ℕ, zero, suc, ◌+◌, ◌*◌, ◌<◌, Bool, true, false, nat_eq, List, [], ◌∷◌, Option, Result, Some, None, Ok, Err, length, get_or, sym, refl, ap, ◌∙◌, subst, arith}
 use Rattle.std.specs.Fn.{Called}
 use Rattle.std.specs.Iterator.{YieldsThen}
+use Rattle.std.specs.Bool.{MatchBool}
 use Rattle.std.specs.Option.{MatchOption}
 use Rattle.std.specs.Result.{MatchResult, IsErr, IsErrAnd}
-use Rattle.std.specs.List.{HoldsAt, FoldsTo}
+use Rattle.std.specs.List.{AllWithin, HoldsAt, FoldsTo}
 use Rattle.std.proofs.lemmas.Grind.{get_or_default_zero}
 use Rattle.std.proofs.lemmas.Iterator.{YieldsList}
 use Rattle.std.proofs.lemmas.Iterator.Consumers.{YieldsList-turn, YieldsList-end}
@@ -53,6 +54,21 @@ stays_other {g} {U} {X} {w} {plan} {n} l e d all = record {
       let t = among_at m l (subst (λ (y : List ℕ). Among m y) (sym e) a) in
       true_T _ (ap X (sym t.2) ∙ all t.0 t.1 (ap U t.2 ∙ T_true _ u));
 }
+
+-- what is so of each item of a list of a set's members is so of the members
+module _ (X : Set) (l : List ℕ) (told : Told l X) where
+  each_told : (No : ℕ → Type 0) → AllWithin No l 0 (length l) → (n : ℕ) → In X n → No n
+  each_told No all n x = let t = (told n).0 x in subst No t.2 (all t.0 0 (omega arith) t.1)
+
+  -- where none is found
+  pub none_told : (Some_one : Type 0) (No : ℕ → Type 0) (r : Bool) → MatchBool r Some_one (AllWithin No l 0 (length l)) → r ≡ false → (n : ℕ) → In X n → No n
+  none_told Some_one No true some e = absurd (both_ways true e refl)
+  none_told Some_one No false all e = each_told No all
+
+  -- the first that is found is a member
+  pub first_told : (Yes No : ℕ → Type 0) (r : Option ℕ) → MatchOption r (AllWithin No l 0 (length l)) (λ x. Yes x × (i : ℕ) × (i < length l) × HoldsAt (λ y. y ≡ x) l i × AllWithin No l 0 i) → MatchOption r ((n : ℕ) → In X n → No n) (In X)
+  first_told Yes No None all = each_told No all
+  first_told Yes No (Some x) t = subst (In X) (t.3 0) (told_in l X told t.1 t.2)
 
 -- places are tried one after another, by calls that leave the closure, up to one at which something is wrong
 module _ {F W : Type 0} (g : Mut F (ℕ × Unit {0}) (Result (Unit {0}) W)) (f : F) (X : Set) (Good : ℕ → Type 0) (Bad : W → Type 0) where

@@ -1,5 +1,5 @@
 -- A closed part of a subgame: all that can be come to from a place.
-use Rattle.std.specs.Prelude.{◌≡◌, ℕ, ◌+◌, ◌<◌, ◌≤◌, ◌⊎◌, ◌↔◌, List, length, Some, None, Option, option_map, unwrap_or, ◌≢◌, slice_index, slice_set}
+use Rattle.std.specs.Prelude.{◌≡◌, ℕ, ◌+◌, ◌*◌, ◌<◌, ◌≤◌, ◌⊎◌, ◌↔◌, List, length, Some, None, Option, option_map, unwrap_or, ◌≢◌, slice_index, slice_set}
 use Rattle.std.specs.Option.{ForSome}
 use Rattle.std.specs.Iterator.{AlwaysYields}
 use Rattle.endless.specs.Games.{Game}
@@ -30,6 +30,11 @@ Told list R = (n : ℕ) → In R n ↔ Passed list (length list) n
 -- a list has all places of a set
 abbrev pub Covers : List ℕ → List ℕ → Type 0
 Covers own list = (n : ℕ) → In (members own) n → Passed list (length list) n
+
+-- a list has all places of a set, and no place that the words of the set have no bit for
+pub record Listed (own list : List ℕ) : Type 0 where
+  pub covers : Covers own list
+  pub inside : (j : ℕ) → j < length list → slice_index list j < 32 * length own
 
 -- an iterator of places gives those of a list, one after another, and no others
 abbrev pub Gives : {S : Type 0} → (S → Option ℕ → S → Type 0) → S → List ℕ → Type 0

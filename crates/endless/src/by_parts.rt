@@ -1,5 +1,5 @@
 //! The recursion over weights by closed parts: who wins each place of a subgame, and with which moves.
-ghost use Rattle.std.specs.Prelude.{◌≡◌, ℕ, ◌+◌, ◌*◌, ◌%◌, ◌^◌, ◌<◌, ◌≤◌, length, option_copied, option_map, unwrap_or, slice_index};
+ghost use Rattle.std.specs.Prelude.{◌≡◌, ℕ, ◌+◌, ◌*◌, ◌%◌, ◌^◌, ◌<◌, ◌≤◌, length, option_copied, option_map, unwrap_or};
 ghost use Rattle.std.specs.Option.{ForSome};
 ghost use Rattle.endless.specs.Games.{other};
 ghost use Rattle.endless.specs.Says.{side, goes};
@@ -10,7 +10,7 @@ ghost use Rattle.endless.specs.Bits.{members, size};
 ghost use Rattle.endless.specs.Pulling.{Unchanged, Sized};
 ghost use Rattle.endless.specs.Desks.{SameDesk};
 ghost use Rattle.endless.specs.Levels.{HeaviestIn, Lent, Brought, Peeled, Peels, Room};
-ghost use Rattle.endless.specs.Parts.{Covers, Part, Saved};
+ghost use Rattle.endless.specs.Parts.{Listed, Part, Saved};
 ghost use Rattle.endless.specs.View.{Playable};
 
 use crate::attractor::attract_counted;
@@ -171,8 +171,7 @@ pub fn level_by_parts(
 )
     requires room { Room graph.now bound own.old rest.old desk.old }
     requires counted { many ≡ size own.old }
-    requires covers { ForSome within (λ list. Covers own.old list.now) }
-    requires inside { ForSome within (λ list. (j : ℕ) → j < length list.now → slice_index list.now j < 32 * length own.old) }
+    requires listed { ForSome within (λ list. Listed own.old list.now) }
     requires playable { Playable graph.now }
     ensures same { SameDesk desk.old desk.new }
     ensures frame { (n : ℕ) → Out (members own.old) n → Unchanged desk.old.out.now desk.new.out.now n }

@@ -4,7 +4,7 @@ ghost use Rattle.std.specs.Option.{ForSome};
 ghost use Rattle.endless.specs.Sets.{In};
 ghost use Rattle.endless.specs.Subgames.{Closed};
 ghost use Rattle.endless.specs.Bits.{members, size};
-ghost use Rattle.endless.specs.Parts.{Spacious, Covers, PartTaken};
+ghost use Rattle.endless.specs.Parts.{Spacious, Listed, PartTaken};
 
 use crate::bits;
 use crate::graph::Places;
@@ -116,8 +116,7 @@ impl Growing<'_, '_> {
     /// Makes the part all of the set, if there is a list with all its places that
     /// is no longer than `most`. How many places these are.
     fn take_within(&mut self, within: Option<&[u32]>, most: usize) -> Option<usize>
-        requires covers { ForSome within (λ list. Covers self.old.set.now list.now) }
-        requires inside { ForSome within (λ list. (j : ℕ) → j < length list.now → slice_index list.now j < 32 * length self.old.set.now) }
+        requires { ForSome within (λ list. Listed self.old.set.now list.now) }
         ensures same { Same self.old self.new }
         ensures taken { IfSome result (λ k. Takes self.old self.new (Some k)) }
     {
@@ -146,8 +145,7 @@ pub fn take_part(
 ) -> Option<usize>
     requires sets { length places.now ≤ 32 * length set.now }
     requires places { (n : ℕ) → In (members set.now) n → n < length places.now }
-    requires covers { ForSome within (λ list. Covers set.now list.now) }
-    requires inside { ForSome within (λ list. (j : ℕ) → j < length list.now → slice_index list.now j < 32 * length set.now) }
+    requires listed { ForSome within (λ list. Listed set.now list.now) }
     requires spacious { Spacious set.now part.old queue.old }
     ensures fits { IfSome result (λ k. k ≤ room) }
     ensures taken { PartTaken places.now set.now part.new queue.new result }

@@ -3,7 +3,7 @@
 //!
 //! Nothing is proved of what is found. It is looked at before it is believed,
 //! or serves where any choice is safe.
-ghost use Rattle.std.specs.Prelude.{◌≡◌};
+ghost use Rattle.std.specs.Prelude.{◌≡◌, ◌+◌, ◌<◌, ◌≤◌};
 
 /// What a walk goes through, and what becomes of the components that it finds.
 pub(crate) trait View {
@@ -30,6 +30,8 @@ pub(crate) fn write(words: &mut [u32], i: usize, word: u32) {
 }
 
 /// Whether a place is in the set.
+// Not `bits::has`: that asks for a place that the set has a bit for, and of the
+// numbers here, which may come from lent words, nothing is known.
 pub(crate) fn is_in(set: &[u32], place: u32) -> bool {
     (word(set, (place / 32) as usize) >> (place % 32)) & 1 == 1
 }
@@ -39,6 +41,8 @@ const DONE: u32 = u32::MAX;
 
 /// A walk through places, each move once. What it keeps of each place stands
 /// in lent words.
+// What is known of a place is a number and no enum: it stands in one lent word
+// for each place, as this crate has no heap.
 #[derive(Drop)]
 pub(crate) struct Walk<'a> {
     /// The how-many-th each place was that the walk met, 0 if not yet: odd
@@ -89,20 +93,21 @@ impl<'a> Walk<'a> {
         if word(self.numbers, place as usize) != 0 {
             return;
         }
-        self.enter(place);
-        // A bound that is never reached, and no measure: that would need the laws of
-        // the walk, which nothing else needs.
-        for _ in 0..u64::MAX {
-            if self.path == 0 {
-                return;
-            }
+        let Some(number) = self.number.checked_add(2) else {
+            return;
+        };
+        self.enter(place, number);
+        while self.path > 0 {
             self.step(view);
         }
     }
 
-    /// Comes to a place for the first time.
-    fn enter(&mut self, place: u32) {
-        let (number, path) = (self.number.wrapping_add(2), self.path);
+    /// Comes to a place for the first time, and gives it this number.
+    fn enter(&mut self, place: u32, number: u32)
+        ensures number { self.new.number ≡ number }
+        ensures path { self.new.path ≤ self.old.path + 1 }
+    {
+        let path = self.path;
         write(self.numbers, place as usize, number);
         write(self.cursors, place as usize, 0);
         write(self.queue, path, place);
@@ -110,20 +115,24 @@ impl<'a> Walk<'a> {
         self.path = path.saturating_add(1);
     }
 
-    /// One step from the last place of the path: on to the next, or back.
-    fn step<V: View>(&mut self, view: &mut V) {
+    /// One step from the last place of the path: on to the next, with a greater
+    /// number, or back.
+    fn step<V: View>(&mut self, view: &mut V)
+        requires { 0 < self.old.path }
+        ensures { self.new.path + self.old.number < self.old.path + self.new.number }
+    {
         let last = self.path.saturating_sub(1);
         let place = word(self.queue, last);
         let from = word(self.cursors, place as usize);
         let met = word(self.numbers, place as usize);
         let (next, number) = self.look(view, place, from, met);
         write(self.numbers, place as usize, number);
-        match next {
-            Some((to, cursor)) => {
+        match (next, self.number.checked_add(2)) {
+            (Some((to, cursor)), Some(greater)) => {
                 write(self.cursors, place as usize, (cursor & 0xffff_ffff) as u32);
-                self.enter(to);
+                self.enter(to, greater);
             }
-            None => self.leave(view, place, number),
+            _ => self.leave(view, place, number),
         }
     }
 
@@ -153,7 +162,11 @@ impl<'a> Walk<'a> {
     }
 
     /// Leaves a place: it is left behind, or it closes a component.
-    fn leave<V: View>(&mut self, view: &mut V, place: u32, number: u32) {
+    fn leave<V: View>(&mut self, view: &mut V, place: u32, number: u32)
+        requires { 0 < self.old.path }
+        ensures number { self.new.number ≡ self.old.number }
+        ensures path { self.new.path < self.old.path }
+    {
         self.path = self.path.saturating_sub(1);
         if number % 2 == 0 {
             self.behind = self.behind.saturating_add(1);
@@ -171,7 +184,10 @@ impl<'a> Walk<'a> {
 
     /// The places that were left behind since `number` belong to the component
     /// that is being closed.
-    fn close<V: View>(&mut self, view: &mut V, number: u32) {
+    fn close<V: View>(&mut self, view: &mut V, number: u32)
+        ensures number { self.new.number ≡ self.old.number }
+        ensures path { self.new.path ≡ self.old.path }
+    {
         while self.behind > 0 {
             let at = self.queue.len().saturating_sub(self.behind);
             let place = word(self.queue, at);
@@ -185,7 +201,9 @@ impl<'a> Walk<'a> {
 
     /// This place belongs to the component that is being closed.
     fn put<V: View>(&mut self, view: &mut V, place: u32)
-        ensures { self.new.behind ≡ self.old.behind }
+        ensures behind { self.new.behind ≡ self.old.behind }
+        ensures number { self.new.number ≡ self.old.number }
+        ensures path { self.new.path ≡ self.old.path }
     {
         write(self.numbers, place as usize, DONE);
         view.put(place, self.components);

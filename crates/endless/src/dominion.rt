@@ -1,5 +1,5 @@
 //! Whether a side holds a set of places of a subgame by a plan.
-ghost use Rattle.std.specs.Prelude.{◌≡◌, ◌<◌, length, MatchResult};
+ghost use Rattle.std.specs.Prelude.{◌≡◌, MatchResult};
 ghost use Rattle.endless.specs.Says.{goes};
 ghost use Rattle.endless.specs.Sets.{Within};
 ghost use Rattle.endless.specs.Subgames.{Holds};
@@ -12,15 +12,14 @@ use crate::examination::Examination;
 use crate::flaw::Flaw;
 
 impl Examination<'_, '_> {
-    /// Whether the side holds the set in the subgame `within` by the answer's
-    /// moves, or why not.
-    pub fn find_flaw(&mut self, within: &[u32]) -> Result<(), Flaw>
-        requires within { length within.now ≡ length self.old.claim.set.now }
+    /// Whether the side holds the set in the subgame by the answer's moves, or
+    /// why not.
+    pub fn find_flaw(&mut self) -> Result<(), Flaw>
         ensures same { self.new.claim ≡ self.old.claim }
-        ensures found { let c = self.old.claim in Within (members c.set.now) (members within.now) → MatchResult result (λ _. Holds c.graph.now (members within.now) (members c.set.now) (number c.side) (goes c.answer.now)) (λ f. FlawIs c.graph.now (members within.now) (members c.set.now) (number c.side) (goes c.answer.now) f) }
+        ensures found { let c = self.old.claim in Within (members c.set.now) (members c.within.now) → MatchResult result (λ _. Holds c.graph.now (members c.within.now) (members c.set.now) (number c.side) (goes c.answer.now)) (λ f. FlawIs c.graph.now (members c.within.now) (members c.set.now) (number c.side) (goes c.answer.now) f) }
     {
         let claim = self.claim;
-        claim.look(within)?;
+        claim.look()?;
         match self.losing_round() {
             Some(place) => Err(Flaw::LosingRound {
                 through: PlaceId(place),

@@ -1,5 +1,5 @@
 //! Whether a plan stays in a set of places: each place is looked at once.
-ghost use Rattle.std.specs.Prelude.{◌≡◌, ℕ, ◌+◌, ◌*◌, ◌^◌, ◌<◌, ◌≤◌, true, false, T, ◌↔◌, length, MatchOption, MatchResult, slice_index};
+ghost use Rattle.std.specs.Prelude.{◌≡◌, ℕ, ◌+◌, ◌*◌, ◌<◌, ◌≤◌, true, false, T, ◌↔◌, length, MatchOption, MatchResult, slice_index};
 ghost use Rattle.endless.specs.Games.{Among};
 ghost use Rattle.endless.specs.Says.{goes};
 ghost use Rattle.endless.specs.Sets.{In};
@@ -12,26 +12,23 @@ use crate::bits;
 use crate::claim::Claim;
 use crate::flaw::Flaw;
 
-/// The first of these moves that leads into the subgame `within` and out of
-/// the set.
-fn first_out(moves: &[u32], within: &[u32], set: &[u32]) -> Option<u32>
-    requires same { length within.now ≡ length set.now }
-    requires inside { (k : ℕ) → k < length moves.now → slice_index moves.now k < 32 * length set.now }
-    ensures { MatchOption result ((k : ℕ) → k < length moves.now → members within.now (slice_index moves.now k) ≡ true → members set.now (slice_index moves.now k) ≡ true) (λ m. (k : ℕ) × (k < length moves.now) × (slice_index moves.now k ≡ m) × (members within.now m ≡ true) × (members set.now m ≡ false)) }
-{
-    moves
-        .iter()
-        .copied()
-        .find(|to| bits::has(within, *to) && !bits::has(set, *to))
-}
-
 impl Claim<'_> {
+    /// The first of these moves that leads into the subgame and out of the set.
+    fn first_out(&self, moves: &[u32]) -> Option<u32>
+        requires { (k : ℕ) → k < length moves.now → slice_index moves.now k < 32 * length self.now.set.now }
+        ensures { MatchOption result ((k : ℕ) → k < length moves.now → members self.now.within.now (slice_index moves.now k) ≡ true → members self.now.set.now (slice_index moves.now k) ≡ true) (λ m. (k : ℕ) × (k < length moves.now) × (slice_index moves.now k ≡ m) × (members self.now.within.now m ≡ true) × (members self.now.set.now m ≡ false)) }
+    {
+        moves
+            .iter()
+            .copied()
+            .find(|to| bits::has(self.within, *to) && !bits::has(self.set, *to))
+    }
+
     /// What is wrong at a place of the set: at the side's own the plan has to
     /// move within the set, at the other's no move may leave it.
-    fn look_at(&self, within: &[u32], place: u32) -> Result<(), Flaw>
-        requires place { place < length self.now.graph.now }
-        requires same { length within.now ≡ length self.now.set.now }
-        ensures { In (members self.now.set.now) place → MatchResult result (λ _. StaysAt self.now.graph.now (members within.now) (members self.now.set.now) (number self.now.side) (goes self.now.answer.now) place) (λ f. Spotted self.now.graph.now (members within.now) (members self.now.set.now) (number self.now.side) (goes self.now.answer.now) f) }
+    fn look_at(&self, place: u32) -> Result<(), Flaw>
+        requires { place < length self.now.graph.now }
+        ensures { In (members self.now.set.now) place → MatchResult result (λ _. StaysAt self.now.graph.now (members self.now.within.now) (members self.now.set.now) (number self.now.side) (goes self.now.answer.now) place) (λ f. Spotted self.now.graph.now (members self.now.within.now) (members self.now.set.now) (number self.now.side) (goes self.now.answer.now) f) }
     {
         let moves = self.graph.moves(place);
         if self.graph.is_own(self.side, place) {
@@ -44,7 +41,7 @@ impl Claim<'_> {
             }
             return Ok(());
         }
-        match first_out(moves, within, self.set) {
+        match self.first_out(moves) {
             Some(to) => Err(Flaw::Escape {
                 from: PlaceId(place),
                 to: PlaceId(to),
@@ -54,10 +51,9 @@ impl Claim<'_> {
     }
 
     /// What is wrong at the first place of the set at which something is.
-    pub fn look(&self, within: &[u32]) -> Result<(), Flaw>
-        requires same { length within.now ≡ length self.now.set.now }
-        ensures { MatchResult result (λ _. (n : ℕ) → In (members self.now.set.now) n → StaysAt self.now.graph.now (members within.now) (members self.now.set.now) (number self.now.side) (goes self.now.answer.now) n) (λ f. Spotted self.now.graph.now (members within.now) (members self.now.set.now) (number self.now.side) (goes self.now.answer.now) f) }
+    pub fn look(&self) -> Result<(), Flaw>
+        ensures { MatchResult result (λ _. (n : ℕ) → In (members self.now.set.now) n → StaysAt self.now.graph.now (members self.now.within.now) (members self.now.set.now) (number self.now.side) (goes self.now.answer.now) n) (λ f. Spotted self.now.graph.now (members self.now.within.now) (members self.now.set.now) (number self.now.side) (goes self.now.answer.now) f) }
     {
-        bits::iter(self.set).try_for_each(|place| self.look_at(within, place))
+        bits::iter(self.set).try_for_each(|place| self.look_at(place))
     }
 }

@@ -27,14 +27,7 @@ impl Claim<'_> {
     fn occurs(&self, weight: u32) -> bool
         ensures { result ≡ false → (n : ℕ) → In (members self.now.set.now) n → weigh self.now.graph.now n ≢ weight }
     {
-        // A loop, as in `first_rise`: `any` and `find` were tried, and that the
-        // set's iterator hands their closures only places was not found.
-        for place in bits::iter(self.set) {
-            if self.graph.weight(place) == weight {
-                return true;
-            }
-        }
-        false
+        bits::iter(self.set).any(|place| self.graph.weight(place) == weight)
     }
 }
 

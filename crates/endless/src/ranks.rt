@@ -62,13 +62,10 @@ impl Claim<'_> {
         requires ranks { length self.now.graph.now ≤ length ranks.now }
         ensures { result ≡ true → FallsAt self.now.graph.now (members self.now.set.now) (number self.now.side) (goes self.now.answer.now) heaviest ranks.now place }
     {
-        // A loop: `all` was tried, and what it tells of each move was not found.
-        for to in self.graph.moves(place) {
-            if !self.follows_along(heaviest, ranks, place, *to) {
-                return false;
-            }
-        }
-        true
+        self.graph
+            .moves(place)
+            .iter()
+            .all(|to| self.follows_along(heaviest, ranks, place, *to))
     }
 
     /// The first place of the set, not heavier than `heaviest`, at which the ranks
@@ -77,14 +74,8 @@ impl Claim<'_> {
         requires ranks { length self.now.graph.now ≤ length ranks.now }
         ensures { MatchOption result ((n : ℕ) → In (members self.now.set.now) n → weight self.now.graph.now n ≤ heaviest → FallsAt self.now.graph.now (members self.now.set.now) (number self.now.side) (goes self.now.answer.now) heaviest ranks.now n) (λ n. In (members self.now.set.now) n) }
     {
-        // No `find`, as no `any` in `occurs`.
-        for place in bits::iter(self.set) {
-            if self.graph.weight(place) <= heaviest {
-                if !self.falls_at(heaviest, ranks, place) {
-                    return Some(place);
-                }
-            }
-        }
-        None
+        bits::iter(self.set).find(|place| {
+            self.graph.weight(*place) <= heaviest && !self.falls_at(heaviest, ranks, *place)
+        })
     }
 }

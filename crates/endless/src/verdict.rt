@@ -130,6 +130,7 @@ impl Checking<'_> {
             side: winner,
             answer: self.answer,
             set,
+            within: self.all,
         };
         let mut examination = Examination {
             claim,
@@ -139,7 +140,7 @@ impl Checking<'_> {
             lent: self.lent,
         };
         examination
-            .find_flaw(self.all)
+            .find_flaw()
             .map_err(|flaw| Reason::Plan { side: winner, flaw })
     }
 }

@@ -33,8 +33,11 @@ level_by_parts-requires t c =
         (
           c.bring_about_part-weight.ensures.rest,
           (
-            λ list e n x. (part.told _ (ap option_copied e) n).0 (brought.within n x),
-            (λ list e j h. omega (arith, members_below c.loop-remaining.own _ (T_true _ (part.within _ (told_in list.now _ (part.told _ (ap option_copied e)) j h))), c.split_at_mut-left.ensures.front_len), c.requires.playable),
+            λ list e. record {
+              covers = λ n x. (part.told _ (ap option_copied e) n).0 (brought.within n x);
+              inside = λ j h. omega (arith, members_below c.loop-remaining.own _ (T_true _ (part.within _ (told_in list.now _ (part.told _ (ap option_copied e)) j h))), c.split_at_mut-left.ensures.front_len);
+            },
+            c.requires.playable,
           ),
         ),
       ),

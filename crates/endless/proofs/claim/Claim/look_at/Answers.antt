@@ -34,8 +34,8 @@ returns-then-is_own c = λ x.
     stays_own (eqb-true _ _ (sym c.if-is_own.ensures)) (plan_may _ _ _ c.args.self.now.answer.now c.moves-moves.ensures.moves (found_among c.if-not-contains.ensures.cases))
     (goes_in (members c.args.self.now.set.now) c.args.self.now.answer.now c.args.place (sym c.if-not-has.ensures))
 
-pub first_out-requires-clause-inside : goal.first_out-requires-clause-inside
-first_out-requires-clause-inside c = λ k h. omega (arith, move_inside c.moves-moves.ensures.playable c.args.place c.moves-moves.result.now c.moves-moves.ensures.moves k h)
+pub first_out-requires : goal.first_out-requires
+first_out-requires c = λ k h. omega (arith, move_inside c.moves-moves.ensures.playable c.args.place c.moves-moves.result.now c.moves-moves.ensures.moves k h)
 
 pub returns-in-Some : goal.returns-in-Some
 returns-in-Some c = λ x.
