@@ -6,7 +6,7 @@ ghost use Rattle.endless.specs.Sets.{Set, In, Out, Within, having};
 ghost use Rattle.endless.specs.Sides.{number};
 ghost use Rattle.endless.specs.Bits.{members, size, Least, NoneFrom};
 ghost use Rattle.endless.specs.Pulling.{Unchanged, Starts};
-ghost use Rattle.endless.specs.Levels.{HeaviestIn, HeaviestOf, GatheredIn, Fitting, Given, Taken, TakenIf, Stays};
+ghost use Rattle.endless.specs.Levels.{HeaviestIn, HeaviestOf, GatheredIn, Fitting, Given, Stays};
 ghost use Rattle.endless.specs.Parts.{Told, Covers, Gives, Part, wanted, mark};
 
 use crate::attractor::first_into;
