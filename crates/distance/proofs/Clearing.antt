@@ -5,15 +5,12 @@ use Rattle.std.proofs.lemmas.Bool.{cases_eq}
 use Rattle.endless.specs.Games.{Game, Reads, May}
 use Rattle.endless.specs.Says.{goes}
 use Rattle.endless.specs.Graph.{moves}
-use Rattle.endless.proofs.Among.{among_at, at_among}
-use Rattle.endless.proofs.Places.{has_move}
+use Rattle.endless.proofs.Among.{at_among}
+use Rattle.endless.proofs.Places.{some_moves}
 use Rattle.endless.proofs.Working.{put_goes, put_unchanged, unchanged_goes}
 use Rattle.distance.specs.Sooner.{never}
 use Rattle.distance.specs.Spreading.{number}
 use Rattle.distance.specs.Distances.{Cleared}
-
-pub some_moves : {s : List ℕ} {g : Game} → Reads s g → (n : ℕ) → n < length g → 0 < length (moves g n)
-some_moves {s} {g} r n l = let t = has_move r n l in omega (arith, (among_at t.0 (moves g n) t.1).1)
 
 module _ {s : List ℕ} {g : Game} (reads : Reads s g) {place : ℕ} {before out awaited : List ℕ} (so_far : Cleared g place before out awaited) (here : place < length g)
     (room : 2 * length g ≤ length out) (long : length g ≤ length awaited) {ms : List ℕ} {many : ℕ} (ms-are : ms ≡ moves g place) (many_is : many ≡ length (moves g place)) where

@@ -7,7 +7,7 @@ use Rattle.endless.specs.Says.{goes}
 use Rattle.endless.specs.Sets.{In}
 use Rattle.endless.specs.Graph.{moves, times}
 use Rattle.endless.specs.Pulling.{Passed, Unchanged}
-use Rattle.endless.proofs.Places.{ok_size, to_place}
+use Rattle.endless.proofs.Places.{ok_size, some_moves, to_place}
 use Rattle.endless.proofs.Pigeonhole.{pigeonhole}
 use Rattle.endless.proofs.CountLaws.{one_if}
 use Rattle.endless.proofs.Sources.{among_times}
@@ -15,7 +15,6 @@ use Rattle.endless.proofs.Working.{goes_at, unchanged_goes}
 use Rattle.distance.specs.Sooner.{never}
 use Rattle.distance.specs.Spreading.{number, missing, Measured, Spread, Kept}
 use Rattle.distance.specs.Distances.{Cleared}
-use Rattle.distance.proofs.Clearing.{some_moves}
 use Rattle.distance.proofs.Missing.{nothing, missing_all, together, missing_less, missing_none, missing_some}
 
 -- ---- before the first: the target has the number 0, and no other place has one

@@ -10,8 +10,7 @@ use Rattle.endless.specs.Sides.{number}
 use Rattle.endless.specs.View.{Playable}
 use Rattle.endless.specs.declared.place.Head.{Head}
 use Rattle.endless.specs.declared.place.HeadWords.{HeadWords}
-use Rattle.endless.proofs.Among.{among_at}
-use Rattle.endless.proofs.Places.{side_below, weight_below, has_move}
+use Rattle.endless.proofs.Places.{side_below, weight_below, some_moves}
 use Rattle.endless.proofs.Reading.{there, front_owner, front_weighs, front_many}
 use Rattle.endless.proofs.View.{places_in_row}
 
@@ -76,11 +75,10 @@ module _ (g : Game) (n : ℕ) (h : n < length g) {s : List ℕ} (is : s ≡ row 
   pub head_there : Playable g → (o : Option Head) → HeadIs s o → IsSome o
   head_there reads None none =
       let t = there g n h in
-      let some = has_move reads n h in
       absurd (none _ _ _ _ (is ∙ ap row t.rest)
-          (omega (arith, ap (λ o. opt o 0 (λ p. p.whose)) t.is, side_below reads n))
-          (omega (arith, ap (λ o. opt o 0 (λ p. p.weight)) t.is, weight_below reads n))
-          (omega (arith, ap (λ o. length (opt o [] (λ p. p.moves))) t.is, (among_at some.0 (moves g n) some.1).1)))
+      (omega (arith, ap (λ o. opt o 0 (λ p. p.whose)) t.is, side_below reads n))
+      (omega (arith, ap (λ o. opt o 0 (λ p. p.weight)) t.is, weight_below reads n))
+      (omega (arith, ap (λ o. length (opt o [] (λ p. p.moves))) t.is, some_moves reads n h)))
   head_there reads (Some head) b = refl
 
   pub head_is : (head : Head) → Begins s head → (number head.whose ≡ whose g n) × (head.weight ≡ weight g n) × (head.moves ≡ length (moves g n))

@@ -1,7 +1,9 @@
 -- What is so of each place of a game that words read as: its side, its weight, its moves.
 use Rattle.std.proofs.Common.{◌≡◌, ℕ, zero, suc, ◌<◌, ◌≤◌, ◌&&◌, T, ltb, leb, List, [], ◌∷◌, length, arith, ltb→lt, lt→ltb, leb→le}
 use Rattle.endless.specs.Games.{Place, Game, Reads, ok_ps, below, some_of, whose, weight, Among, first, later, May, other}
+use Rattle.endless.specs.Graph.{moves}
 use Rattle.endless.proofs.Tests.{both, from_both}
+use Rattle.endless.proofs.Among.{among_at}
 
 -- a place that fits in a game of n places
 pub record Fine (n : ℕ) (p : Place) : Type 0 where
@@ -76,6 +78,9 @@ to_place {s} {g} r n m a = (at s g r n).move_below m a
 
 pub has_move : {s : List ℕ} {g : Game} → Reads s g → (n : ℕ) → n < length g → (m : ℕ) × May g n m
 has_move {s} {g} r n h = (at s g r n).has_move h
+
+pub some_moves : {s : List ℕ} {g : Game} → Reads s g → (n : ℕ) → n < length g → 0 < length (moves g n)
+some_moves {s} {g} r n h = let t = has_move r n h in omega (arith, (among_at t.0 (moves g n) t.1).1)
 
 pub from_place : (g : Game) (n m : ℕ) → May g n m → n < length g
 from_place [] n m a = elim a [ ]

@@ -13,14 +13,11 @@ use Rattle.endless.specs.declared.refusal.Refusal.{Refusal}
 use Rattle.endless.specs.declared.refusal.Refusal.TheVariants.{Few, NoGame, NoPlace, OutFull}
 use Rattle.endless.specs.declared.side.Side.{Side}
 use Rattle.endless.specs.declared.side.Side.TheVariants.{Even, Odd}
-use Rattle.endless.proofs.Among.{among_at, at_among}
-use Rattle.endless.proofs.Places.{has_move, to_place}
+use Rattle.endless.proofs.Among.{at_among}
+use Rattle.endless.proofs.Places.{to_place}
 use Rattle.endless.proofs.View.{game_in_reads}
 use Rattle.playing.specs.Boards.{Won, Answered, ByPlanHere, Stepped}
 use Rattle.playing.specs.Solutions.{Solution}
-
-pub some_moves : {s : List ℕ} {g : Game} → Reads s g → (n : ℕ) → n < length g → 0 < length (moves g n)
-some_moves {s} {g} r n h = let t = has_move r n h in omega (arith, (among_at t.0 (moves g n) t.1).1)
 
 -- two games that words read as are one, so an answer to one is an answer to the other
 pub answered_too : {s : List ℕ} {g g' : Game} {o : List ℕ} → Reads s g → Reads s g' → Answered g o → Answered g' o

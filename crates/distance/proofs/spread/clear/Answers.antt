@@ -1,5 +1,6 @@
 use Rattle.std.proofs.Common.{◌<◌, length, ap, arith}
-use Rattle.distance.proofs.Clearing.{some_moves, cleared_more}
+use Rattle.endless.proofs.Places.{some_moves}
+use Rattle.distance.proofs.Clearing.{cleared_more}
 use Rattle.distance.proofs.spread.clear.Goals as goal
 
 pub bounds-moves-0 : goal.bounds-moves-0

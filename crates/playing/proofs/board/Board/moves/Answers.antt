@@ -1,7 +1,8 @@
 use Rattle.std.specs.Prelude.{All}
 use Rattle.std.proofs.Common.{◌<◌, length, ap, sym, subst, arith}
 use Rattle.endless.specs.Graph.{moves}
-use Rattle.playing.proofs.Boards.{some_moves, moves_within}
+use Rattle.endless.proofs.Places.{some_moves}
+use Rattle.playing.proofs.Boards.{moves_within}
 use Rattle.playing.proofs.board.Board.moves.Goals as goal
 
 pub returns-clause-some : goal.returns-clause-some
