@@ -3,8 +3,6 @@ ghost use Rattle.endless.specs.Answers.{WinnerIs, PlanIs};
 
 use crate::side::Side;
 
-// Two words for each place, at `2 * n` and `2 * n + 1`, and no slice of pairs:
-// so C has an answer, which may be short or have words behind it.
 /// A place, by its index in the game.
 #[derive(Clone, Copy, PartialEq, Eq, Debug)]
 pub struct PlaceId(pub u32);
@@ -12,6 +10,9 @@ pub struct PlaceId(pub u32);
 /// The side that wins a place.
 #[derive(Clone, Copy, PartialEq, Eq)]
 pub struct Winner(pub Side);
+
+// These two read words, two for each place, at `2 * n` and `2 * n + 1`, and no
+// slice of pairs: so C has an answer, which may be short or have words behind it.
 
 /// Who wins `place` by this answer: `None` where the answer gives it to
 /// neither side.

@@ -107,7 +107,9 @@ fn peel_won(
 {
     match list {
         Some(_) => {
-            // As `&` the answer cannot be lent beside the queue: tried, no rule.
+            // The answer is only read there, but lent as `&mut`: while one field of
+            // what `desk` lends is lent as `&`, the borrow checker has no rule for
+            // lending another as `&mut`.
             let targets = gather_part(None, list, own, &mut *desk.out, desk.queue);
             let taken = attract_counted(graph, winner, own, desk, targets, many);
             many - taken
@@ -142,8 +144,13 @@ fn peel_part(
     ensures peels { (R : Set) → Subgame graph.now (members own.old) → Part own.old (option_copied list.entry) R → Peels graph.now (members own.old) R (number winner) (other (number winner)) (members own.new) desk.old.out.now desk.new.out.now }
 {
     let loser = winner.other();
+<<<<<<< HEAD
     // As `&` the answer cannot be lent beside the queue: tried, no rule.
     let lost = gather_part(Some(loser), list, own, &mut *desk.out, desk.queue);
+=======
+    // The answer is lent as `&mut` for the reason in `peel_won`.
+    let lost = gather_lost(loser, list, own, &mut *desk.out, desk.queue);
+>>>>>>> dabf82e7c9eb0cf24d94baf29d1959c55324edef
     if lost == 0 {
         peel_won(graph, winner, many, list, own, desk)
     } else {
@@ -178,7 +185,7 @@ pub fn level_by_parts(
     ensures solves { Subgame graph.now (members own.old) → Solves graph.now (members own.old) (side desk.new.out.now) (goes desk.new.out.now) }
 {
     let places = graph.places();
-    let mut order = Order::new();
+    let mut order = Order::default();
     let mut remaining = many;
     while remaining > 0 {
         let start = find_start(

@@ -18,10 +18,7 @@ impl Claim<'_> {
         requires { (k : ℕ) → k < length moves.now → slice_index moves.now k < 32 * length self.now.set.now }
         ensures { MatchOption result ((k : ℕ) → k < length moves.now → members self.now.within.now (slice_index moves.now k) ≡ true → members self.now.set.now (slice_index moves.now k) ≡ true) (λ m. (k : ℕ) × (k < length moves.now) × (slice_index moves.now k ≡ m) × (members self.now.within.now m ≡ true) × (members self.now.set.now m ≡ false)) }
     {
-        moves
-            .iter()
-            .copied()
-            .find(|to| bits::has(self.within, *to) && !bits::has(self.set, *to))
+        moves.iter().copied().find(|to| bits::has(self.within, *to) && !bits::has(self.set, *to))
     }
 
     /// What is wrong at a place of the set: at the side's own the plan has to

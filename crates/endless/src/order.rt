@@ -45,20 +45,13 @@ impl Effort {
 }
 
 /// The order of a level's places that is kept in its spare words, and how far
-/// it has been gone through.
+/// it has been gone through. At first none is kept.
 // Numbers beside the lent words, as this crate has no heap: no list is owned,
 // and one that is lent here could not be lent to what the level calls.
-#[derive(Clone, Copy)]
+#[derive(Clone, Copy, Default)]
 pub struct Order {
     pub kept: usize,
     at: usize,
-}
-
-impl Order {
-    /// No order is kept.
-    pub fn new() -> Order {
-        Order { kept: 0, at: 0 }
-    }
 }
 
 /// The index of the first place of the order, from `from` on, that is left.
@@ -108,6 +101,9 @@ fn clear(own: &[u32], numbers: &mut [u32])
     }
 }
 
+// What these two share stays parameters: a level lends it anew at each turn, for
+// the one call that hands it on.
+
 /// Makes an order of what is left of a level, where that may be worth while
 /// and there is room.
 fn make_order<'a>(
@@ -124,7 +120,7 @@ fn make_order<'a>(
     let all = places.len() as usize;
     effort.spend(size);
     if size <= SMALL || effort.steps < effort.next || spare.len() < all.saturating_add(size) {
-        return Order::new();
+        return Order::default();
     }
     let front = spare.len() - all;
     let (list, numbers) = spare.split_at_mut(front);
@@ -142,7 +138,7 @@ fn make_order<'a>(
     let greatest = walk.greatest();
     effort.split(size, greatest);
     if greatest > size / 8 * 7 {
-        return Order::new();
+        return Order::default();
     }
     Order {
         kept: listing.many,

@@ -5,12 +5,13 @@ ghost use Rattle.endless.specs.Weights.{weighing, kinds};
 
 use crate::words::GameWords;
 
-// Each crate has this number of its own, as `drawing` and `pgsolver` read texts
-// and take no more from here than a `Side`.
+// Each crate that reads texts has this number of its own, as it takes no more
+// from here than a `Side`, and so has `playing`, as the size of its counts.
 /// How many weights a place can have.
 pub const WEIGHTS: usize = 256;
 
-// An array, and no type as `playing::Counts`: it is read once, and never changed.
+// An array, and no type as `playing::Counts`: it is read once, and does not
+// change after it is made.
 /// For each weight how many places have it.
 pub fn tally(game: &GameWords) -> [u32; WEIGHTS]
     ensures { (k : ℕ) → slice_index result k ≡ weighing game.now k }
