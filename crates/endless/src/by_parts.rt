@@ -144,13 +144,8 @@ fn peel_part(
     ensures peels { (R : Set) → Subgame graph.now (members own.old) → Part own.old (option_copied list.entry) R → Peels graph.now (members own.old) R (number winner) (other (number winner)) (members own.new) desk.old.out.now desk.new.out.now }
 {
     let loser = winner.other();
-<<<<<<< HEAD
-    // As `&` the answer cannot be lent beside the queue: tried, no rule.
-    let lost = gather_part(Some(loser), list, own, &mut *desk.out, desk.queue);
-=======
     // The answer is lent as `&mut` for the reason in `peel_won`.
-    let lost = gather_lost(loser, list, own, &mut *desk.out, desk.queue);
->>>>>>> dabf82e7c9eb0cf24d94baf29d1959c55324edef
+    let lost = gather_part(Some(loser), list, own, &mut *desk.out, desk.queue);
     if lost == 0 {
         peel_won(graph, winner, many, list, own, desk)
     } else {
