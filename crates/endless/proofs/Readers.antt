@@ -51,11 +51,6 @@ same_head p w k m rest more e = record {
   follows = let f : rest ≡ (p.moves ++ []) ++ more = cc in f ∙ ap (λ (l : List ℕ). l ++ more) (append-nil p.moves);
 }
 
--- no place stands where no head does
-pub headless : (s : List ℕ) (n : ℕ) → ((w k m : ℕ) (rest : List ℕ) → s ≡ w ∷ k ∷ m ∷ rest → w < 2 → k < 256 → 1 ≤ m → ⊥) →
-    (p : Place) (more : List ℕ) → s ≡ row (p ∷ []) ++ more → T (ok_ps n (p ∷ [])) → ⊥
-headless s n no-head p more e t = let f = (ok_parts n p [] t).0 in no-head _ _ _ _ e f.side f.light f.moving
-
 -- nor where the moves are too few or lead out of the game
 pub moves_out : (s : List ℕ) (n w k m : ℕ) (rest : List ℕ) → s ≡ w ∷ k ∷ m ∷ rest → (m ≤ length rest → below n (take m rest) ≡ false) →
     (p : Place) (more : List ℕ) → s ≡ row (p ∷ []) ++ more → T (ok_ps n (p ∷ [])) → ⊥

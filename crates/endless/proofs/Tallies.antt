@@ -1,16 +1,16 @@
 -- Counts of weights, place by place.
-use Rattle.std.proofs.Common.{◌≡◌, ℕ, zero, suc, ◌+◌, ◌^◌, ◌<◌, ◌≤◌, eqb, ltb, ◌⊎◌, List, [], ◌∷◌, length, get_or, drop, set, map, replicate, sym, refl, ap, ◌∙◌, inl, inr, add-one, arith}
+use Rattle.std.proofs.Common.{◌≡◌, ℕ, zero, suc, ◌+◌, ◌^◌, ◌<◌, ◌≤◌, eqb, ◌⊎◌, List, [], ◌∷◌, length, get_or, drop, set, map, replicate, sym, refl, ap, ◌∙◌, inl, inr, add-one, arith}
 use Rattle.std.proofs.lemmas.List.{get_or-set_same, get_or-set_other, length-set, length-replicate, length-map, length-drop}
 use Rattle.std.proofs.lemmas.Bool.{cases_eq, eq-eqb, ne_eqb}
 use Rattle.endless.specs.Games.{Game, weight}
 use Rattle.endless.specs.Bits.{count}
-use Rattle.endless.specs.Weights.{weighing, occurs, kinds}
+use Rattle.endless.specs.Weights.{weighing}
 use Rattle.endless.specs.Heads.{head_of}
 use Rattle.endless.specs.View.{Playable}
 use Rattle.endless.specs.declared.place.HeadWords.{HeadWords}
 use Rattle.endless.proofs.Places.{ok_size, weight_below}
 use Rattle.endless.proofs.Heads.{Turn, turn}
-use Rattle.endless.proofs.CountLaws.{one_if, count_zero, count_suc, count_le, count_same}
+use Rattle.endless.proofs.CountLaws.{one_if, count_zero, count_suc, count_le}
 
 -- the first i places counted by their weights
 pub record Tallied (g : Game) (i : ℕ) (counts : List ℕ) : Type 0 where
@@ -69,9 +69,3 @@ pub weighed_all : (g : Game) (counts : List ℕ) → Weighed g [] counts → (k 
 weighed_all g counts t k =
     let all : t.0 ≡ length g = omega (arith, t.1, ap length t.2, length-map (drop t.0 g) head_of, length-drop t.0 g) in
     t.3.are k ∙ ap (count (λ n. eqb (weight g n) k)) all
-
--- how many weights occur, from the counts
-pub kinds_are : (counts : List ℕ) (g : Game) → length counts ≡ 256 → ((k : ℕ) → get_or counts k 0 ≡ weighing g k)
-    → count (λ k. ltb 0 (get_or counts k 0)) (length counts) ≡ kinds g
-kinds_are counts g long are =
-    ap (count (λ k. ltb 0 (get_or counts k 0))) long ∙ count_same (λ k. ltb 0 (get_or counts k 0)) (occurs g) 256 (λ k h. ap (ltb 0) (are k))
