@@ -1,4 +1,3 @@
-mod Written
 mod Views
 mod Claims
 mod Checks

@@ -1,34 +1,8 @@
--- What stands at a place, and rounds along which ranks fall.
-use Rattle.std.proofs.Common.{◌≡◌, ℕ, zero, suc, ◌+◌, ◌-◌, ◌<◌, ◌≤◌, cond, ◌⊎◌, List, [], ◌∷◌, length, get_or, vec_items, sym, refl, ap, ◌∙◌, subst, inl, inr, le_refl, eq-or-lt_of_le, arith}
-use Rattle.std.specs.Prelude.{◌==◌}
-use Rattle.std.proofs.lemmas.List.{get_or-map}
+-- Rounds along which ranks fall.
+use Rattle.std.proofs.Common.{◌≡◌, ℕ, zero, suc, ◌+◌, ◌-◌, ◌<◌, ◌≤◌, ◌⊎◌, List, get_or, sym, ap, ◌∙◌, subst, inl, inr, le_refl, eq-or-lt_of_le, arith}
 use Rattle.allplans.specs.declared.game.Place.{Place}
-use Rattle.allplans.specs.declared.answer.Claim.{Claim}
 use Rattle.allplans.specs.Claims.{plan}
-use Rattle.allplans.specs.Rounds.{whose, weight, moves, goes_to, Among, Inside, Round, FallsBy}
-
-pub whose_at : (ps : List Place) (v : ℕ) (d : Place) → v < length ps → whose ps v ≡ (get_or ps v d).whose
-whose_at [] v d h = absurd (omega arith)
-whose_at (p ∷ ps) zero d h = refl
-whose_at (p ∷ ps) (suc v) d h = whose_at ps v d (omega arith)
-
-pub weight_at : (ps : List Place) (v : ℕ) (d : Place) → v < length ps → weight ps v ≡ (get_or ps v d).weight
-weight_at [] v d h = absurd (omega arith)
-weight_at (p ∷ ps) zero d h = refl
-weight_at (p ∷ ps) (suc v) d h = weight_at ps v d (omega arith)
-
-pub moves_at : (ps : List Place) (v : ℕ) (d : Place) → v < length ps → moves ps v ≡ vec_items (get_or ps v d).moves
-moves_at [] v d h = absurd (omega arith)
-moves_at (p ∷ ps) zero d h = refl
-moves_at (p ∷ ps) (suc v) d h = moves_at ps v d (omega arith)
-
--- where a play may go from a place, by what stands there and what is claimed of it
-pub goes_at : (ps : List Place) (claims : List Claim) (side v : ℕ) (p : Place) (c : Claim) → v < length ps → p ≡ get_or ps v p → v < length claims → c ≡ get_or claims v c → goes_to ps (plan claims) side v ≡ cond (p.whose == side) (c.goes ∷ []) (vec_items p.moves)
-goes_at ps claims side v p c h e k f =
-    let w : whose ps v ≡ p.whose = whose_at ps v p h ∙ sym (ap (λ (q : Place). q.whose) e) in
-    let m : moves ps v ≡ vec_items p.moves = moves_at ps v p h ∙ sym (ap (λ (q : Place). vec_items q.moves) e) in
-    let g : get_or (plan claims) v 0 ≡ c.goes = get_or-map (λ (q : Claim). q.goes) claims v c 0 k ∙ sym (ap (λ (q : Claim). q.goes) f) in
-    rw (w, m, g) refl
+use Rattle.allplans.specs.Rounds.{weight, goes_to, Among, Inside, Round, FallsBy}
 
 -- numbers that never rise
 pub never_rise : (g : ℕ → ℕ) (n : ℕ) → ((i : ℕ) → i ≤ n → g (suc i) ≤ g i) → (m i j : ℕ) → j ≡ i + m → j ≤ suc n → g j ≤ g i

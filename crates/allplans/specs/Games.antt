@@ -1,5 +1,5 @@
 -- Games as lists of places, and their words.
-use Rattle.std.specs.Prelude.{ℕ, ◌<◌, ◌≤◌, List, [], ◌∷◌, ◌++◌, length, vec_items, vec_len, slice_index, slice_index_or}
+use Rattle.std.specs.Prelude.{ℕ, ◌<◌, ◌≤◌, List, ◌∷◌, length, vec_items, vec_len, slice_index, slice_index_or, flat_map}
 use Rattle.allplans.specs.declared.game.Place.{Place}
 
 -- each of the moves is to a place of the game
@@ -22,10 +22,6 @@ pub record Fine (ps : List Place) : Type 0 where
 abbrev pub place_words : Place → List ℕ
 place_words p = p.whose ∷ p.weight ∷ vec_len p.moves ∷ vec_items p.moves
 
-abbrev pub places_words : List Place → List ℕ
-places_words [] = []
-places_words (p ∷ ps) = place_words p ++ places_words ps
-
 -- how many places, and then the words of each
 abbrev pub game_words : List Place → List ℕ
-game_words ps = length ps ∷ places_words ps
+game_words ps = length ps ∷ flat_map place_words ps

@@ -1,24 +1,18 @@
 -- Rounds among the places that an answer gives to a side.
-use Rattle.std.specs.Prelude.{◌≡◌, ℕ, zero, suc, ◌<◌, ◌≤◌, cond, List, [], ◌∷◌, length, vec_items, ◌==◌, slice_index, slice_index_or}
+use Rattle.std.specs.Prelude.{◌≡◌, ℕ, suc, ◌<◌, ◌≤◌, cond, List, [], ◌∷◌, length, map, vec_items, ◌==◌, slice_index, slice_index_or}
 use Rattle.allplans.specs.declared.game.Place.{Place}
 use Rattle.allplans.specs.declared.view.View.{View}
 use Rattle.allplans.specs.Claims.{winners, plan}
 use Rattle.allplans.specs.Sides.{side_word}
 
 abbrev pub whose : List Place → ℕ → ℕ
-whose [] v = 0
-whose (p ∷ ps) zero = p.whose
-whose (p ∷ ps) (suc v) = whose ps v
+whose ps v = slice_index (map (λ p. p.whose) ps) v
 
 abbrev pub weight : List Place → ℕ → ℕ
-weight [] v = 0
-weight (p ∷ ps) zero = p.weight
-weight (p ∷ ps) (suc v) = weight ps v
+weight ps v = slice_index (map (λ p. p.weight) ps) v
 
 abbrev pub moves : List Place → ℕ → List ℕ
-moves [] v = []
-moves (p ∷ ps) zero = vec_items p.moves
-moves (p ∷ ps) (suc v) = moves ps v
+moves ps v = slice_index_or (map (λ p. vec_items p.moves) ps) v []
 
 -- x stands in the list
 abbrev pub Among : ℕ → List ℕ → Type 0

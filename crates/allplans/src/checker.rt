@@ -226,12 +226,13 @@ fn take_step(before: &mut [Option<usize>], place: usize) -> Option<usize>
 fn search(heap: Global, view: View, start: usize) -> Result<Vec<Option<usize>>, Fault> {
     let places = view.claimed.places.len();
     let mut before = vec![in heap; None; places]?;
+    let steps = before.as_mut_slice();
     let mut queue = VecDeque::new(heap);
     queue.push_back(start)?;
     while let Some(place) = queue.pop_front() {
         for to in view.moves(place) {
             let to = *to as usize;
-            if view.has(to) && put_before(before.as_mut_slice(), to, place) {
+            if view.has(to) && put_before(steps, to, place) {
                 queue.push_back(to)?;
             }
         }
