@@ -12,6 +12,7 @@ pub mod Pieces
 pub mod Readings
 pub mod Refusing
 pub mod RoundTrip
+pub mod Rows
 pub mod Scans
 pub mod Spells
 pub mod Tokens

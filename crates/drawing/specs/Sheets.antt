@@ -1,0 +1,28 @@
+-- How a game is written as a drawing.
+use Rattle.std.specs.Prelude.{ℕ, List, [], ◌∷◌, ◌++◌, length, flat_map, slice_index_or}
+use Rattle.std.specs.List.{range_with_len}
+use Rattle.std.specs.Fmt.{decimal}
+use Rattle.endless.specs.Games.{Game, whose, weight}
+use Rattle.endless.specs.Graph.{moves}
+use Rattle.drawing.specs.Spelling.{spelling}
+
+-- what a place is called
+abbrev pub named : List (List ℕ) → ℕ → List ℕ
+named names n = slice_index_or names n []
+
+abbrev pub move_text : List (List ℕ) → ℕ → List ℕ
+move_text names m = 32 ∷ spelling (named names m)
+
+-- NAME SIDE WEIGHT: NAME NAME ..
+abbrev pub before_moves : List ℕ → ℕ → ℕ → List ℕ → List ℕ
+before_moves x s w ms = spelling x ++ (32 ∷ (decimal s ++ (32 ∷ (decimal w ++ (58 ∷ ms)))))
+
+abbrev pub line_of : Game → List (List ℕ) → ℕ → List ℕ
+line_of g names n = before_moves (named names n) (whose g n) (weight g n) (flat_map (move_text names) (moves g n))
+
+-- a line with its end
+unfoldable pub line_text : Game → List (List ℕ) → ℕ → List ℕ
+line_text g names n = line_of g names n ++ (10 ∷ [])
+
+abbrev pub sheet : Game → List (List ℕ) → List ℕ
+sheet g names = flat_map (line_text g names) (range_with_len 0 (length g))
