@@ -8,12 +8,14 @@ pub mod Indices
 pub mod Lexes
 pub mod Lines
 pub mod Moving
+pub mod Numbers
 pub mod Pieces
 pub mod Readings
 pub mod Refusing
 pub mod RoundTrip
 pub mod Rows
 pub mod Scans
+pub mod Sheets
 pub mod Spells
 pub mod Tokens
 pub mod Wrongs

@@ -1,10 +1,11 @@
 -- How a game is written as a drawing.
-use Rattle.std.specs.Prelude.{ℕ, List, [], ◌∷◌, ◌++◌, length, flat_map, slice_index_or}
+use Rattle.std.specs.Prelude.{◌≡◌, ◌≢◌, ℕ, ◌<◌, List, [], ◌∷◌, ◌++◌, length, flat_map, slice_index_or}
 use Rattle.std.specs.List.{range_with_len}
 use Rattle.std.specs.Fmt.{decimal}
-use Rattle.endless.specs.Games.{Game, whose, weight}
+use Rattle.endless.specs.Games.{Game, Reads, whose, weight}
 use Rattle.endless.specs.Graph.{moves}
-use Rattle.drawing.specs.Spelling.{spelling}
+use Rattle.drawing.specs.Spelling.{spelling, IsName}
+use Rattle.drawing.specs.Drawn.{Drawn}
 
 -- what a place is called
 abbrev pub named : List (List ℕ) → ℕ → List ℕ
@@ -26,3 +27,13 @@ line_text g names n = line_of g names n ++ (10 ∷ [])
 
 abbrev pub sheet : Game → List (List ℕ) → List ℕ
 sheet g names = flat_map (line_text g names) (range_with_len 0 (length g))
+
+-- names for the places of a game: one for each, which a drawing may have, and no two alike
+pub record NamesOf (g : Game) (names : List (List ℕ)) : Type 0 where
+  pub many : length names ≡ length g
+  pub each : (n : ℕ) → n < length names → IsName (named names n)
+  pub different : (i j : ℕ) → i < j → j < length names → named names i ≢ named names j
+
+-- the text draws the words of the game, with these names
+abbrev pub Draws : List ℕ → Game → List (List ℕ) → Type 0
+Draws text g names = (words : List ℕ) → Reads words g → Drawn text names words

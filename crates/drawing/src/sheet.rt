@@ -3,7 +3,7 @@ ghost use Rattle.std.specs.Prelude.{◌≡◌, ◌<◌, [], length, map, IfOk, S
 ghost use Rattle.std.specs.List.{flat_map};
 ghost use Rattle.std.specs.Fmt.{WritesOnOk};
 ghost use Rattle.endless.specs.Graph.{moves};
-ghost use Rattle.drawing.specs.Sheets.{named, move_text, line_text, sheet};
+ghost use Rattle.drawing.specs.Sheets.{named, move_text, line_text, sheet, NamesOf, Draws};
 
 use crate::spell::Name;
 use endless::graph::Places;
@@ -66,9 +66,11 @@ impl fmt::Display for Sheet<'_> {
     }
 }
 
-/// The drawing of a game whose places have these names.
+/// The drawing of a game whose places have these names. It is read back as the
+/// same game with the same names.
 pub fn draw(heap: Global, places: &Places, names: &[String]) -> Result<String, AllocError>
-    ensures { IfOk result (λ s. string_bytes s ≡ sheet places.now (map string_bytes names.now)) }
+    ensures is { IfOk result (λ s. string_bytes s ≡ sheet places.now (map string_bytes names.now)) }
+    ensures back { NamesOf places.now (map string_bytes names.now) → IfOk result (λ s. Draws (string_bytes s) places.now (map string_bytes names.now)) }
 {
     Sheet { places, names }.to_string(heap)
 }
