@@ -1,3 +1,2 @@
 mod Labels
 mod Plans
-mod Rows

@@ -7,9 +7,11 @@ pub mod Gaming
 pub mod Indices
 pub mod Lexes
 pub mod Lines
+pub mod LinesBack
 pub mod Moving
 pub mod Numbers
 pub mod Pieces
+pub mod Printables
 pub mod Readings
 pub mod Refusing
 pub mod RoundTrip

@@ -1,117 +1,22 @@
--- What is written of a game is a drawing of it.
-use Rattle.std.proofs.Common.{◌≡◌, ℕ, zero, suc, ◌+◌, ◌<◌, ◌≤◌, Bool, true, false, cond, not, ◌&&◌, ◌||◌, eqb, ltb, List, [], ◌∷◌, ◌++◌, map, length, get_or, drop, IfOk, Ok, Err, Result, sym, refl, ap, ◌∙◌, subst, append_assoc, add-one, arith}
+-- What is written of a game is a drawing of it, and reads as it.
+use Rattle.std.proofs.Common.{◌≡◌, ℕ, zero, suc, ◌+◌, ◌<◌, ◌≤◌, cond, leb, List, [], ◌∷◌, ◌++◌, map, length, get_or, take, drop, Some, None, Option, IfOk, Ok, Err, Result, ⊎_elim, sym, refl, ap, ◌∙◌, subst, append_assoc, append-nil, add-one, arith}
 use mathlib.Core.Option.{some}
-use Rattle.std.specs.Fmt.{decimal}
-use Rattle.std.specs.List.{flat_map, range_with_len, prefix_len, onto_first}
-use Rattle.std.proofs.lemmas.Bool.{cond-false, or_parts, ne_eqb, ltb-false}
-use Rattle.endless.specs.Games.{Place, Game, Reads, nth, opt, whose, weight, Among, first, later}
-use Rattle.endless.specs.Graph.{moves}
-use Rattle.endless.proofs.Places.{side_below, weight_below, to_place, has_move}
-use Rattle.drawing.specs.declared.refusal.Fault.TheVariants.{Side, Weight}
-use Rattle.drawing.specs.Form.{blank, control, control_within, apart, word, colon, next, next_dark, next_piece, pieces, Entry, nothing, place, or_fault, names_of, with_name, some_names, row_moves, row_weight, row_side, row}
-use Rattle.drawing.specs.Reading.{lines, bared, held}
-use Rattle.drawing.specs.Drawn.{with_entry, entries, Good, AllGood, Placed, Places, Drawn}
-use Rattle.drawing.specs.Spelling.{plainly, escaped, spelling, IsName}
-use Rattle.drawing.specs.Sheets.{named, move_text, before_moves, line_of, line_text, sheet, NamesOf, Draws}
-use Rattle.drawing.proofs.Pieces.{pieces_next, pieces_none}
-use Rattle.drawing.proofs.RoundTrip.{clear_escaped, quotes, name_back}
-use Rattle.drawing.proofs.Numbers.{Figures, figures, number_back, side_back, weighs_back}
-
--- no byte is below 32
-abbrev Shown : List ℕ → Type 0
-Shown [] = Unit {0}
-Shown (b ∷ bs) = (32 ≤ b) × Shown bs
-
-shown_append : (xs ys : List ℕ) → Shown xs → Shown ys → Shown (xs ++ ys)
-shown_append [] ys h k = k
-shown_append (x ∷ xs) ys h k = (h.0, shown_append xs ys h.1 k)
-
-shown_clear : (wide : Bool) (n : List ℕ) → control_within wide n ≡ false → Shown n
-shown_clear wide [] h = tt
-shown_clear wide (b ∷ bs) h =
-    let p = or_parts (control wide b) (control_within (eqb b 194) bs) h in
-    let q = or_parts (ltb b 32 || eqb b 127) (wide && ltb b 160) p.0 in
-    (ltb-false b 32 (or_parts (ltb b 32) (eqb b 127) q.0).0, shown_clear (eqb b 194) bs p.1)
-
-shown_name : (n : List ℕ) → IsName n → Shown (spelling n)
-shown_name n is = at (plainly n)
-  where
-    at : (t : Bool) → Shown (cond t n (34 ∷ (escaped n ++ (34 ∷ []))))
-    at true = shown_clear false n is.clear
-    at false = (omega arith, shown_append (escaped n) (34 ∷ []) (shown_clear false (escaped n) (clear_escaped false n is.clear)) (omega arith, tt))
-
-shown_figures : (ds : List ℕ) → Figures ds → Shown ds
-shown_figures [] f = tt
-shown_figures (b ∷ bs) f = (omega (arith, f.0), shown_figures bs f.2)
-
--- a line without its end
-split_line : (l rest : List ℕ) → Shown l → lines (l ++ (10 ∷ rest)) ≡ l ∷ lines rest
-split_line [] rest h = refl
-split_line (b ∷ bs) rest h = cond-false _ _ _ (ne_eqb b 10 (λ e. omega (arith, e, h.0))) ∙ ap (onto_first b) (split_line bs rest h.1)
-
-bared_shown : (l : List ℕ) → Shown l → bared l ≡ l
-bared_shown [] h = refl
-bared_shown (b ∷ []) h = cond-false _ _ _ (ne_eqb b 13 (λ e. omega (arith, e, h.0)))
-bared_shown (b ∷ c ∷ bs) h = ap (λ l. b ∷ l) (bared_shown (c ∷ bs) h.1)
-
-blank_back : (bs : List ℕ) → next_piece (32 ∷ bs) ≡ next_piece bs
-blank_back bs = let one : 1 + prefix_len blank bs ≡ suc (prefix_len blank bs) = omega arith in ap (λ k. next_dark (drop k (32 ∷ bs))) one
-
--- the moves of a place
-module _ (names : List (List ℕ)) where
-  moves_apart : (ms : List ℕ) → apart (flat_map (move_text names) ms) ≡ true
-  moves_apart [] = refl
-  moves_apart (m ∷ ms) = refl
-
-  shown_moves : (ms : List ℕ) → ((m : ℕ) → Among m ms → IsName (named names m)) → Shown (flat_map (move_text names) ms)
-  shown_moves [] each = tt
-  shown_moves (m ∷ ms) each = (omega arith, shown_append (spelling (named names m)) (flat_map (move_text names) ms) (shown_name (named names m) (each m first)) (shown_moves ms (λ k a. each k (later a))))
-
-  names_back : (ms : List ℕ) → ((m : ℕ) → Among m ms → IsName (named names m)) → names_of (pieces (flat_map (move_text names) ms)) ≡ Ok (map (named names) ms)
-  names_back [] each = ap names_of (pieces_none [] refl)
-  names_back (m ∷ ms) each =
-      let x = named names m in
-      let rest = flat_map (move_text names) ms in
-      ap names_of (pieces_next (32 ∷ (spelling x ++ rest)) (word (quotes x) x) rest (blank_back (spelling x ++ rest) ∙ name_back x rest (each m first) (moves_apart ms)))
-      ∙ ap (with_name x) (names_back ms (λ k a. each k (later a)))
-
--- a line
-module _ (names : List (List ℕ)) (x : List ℕ) (is : IsName x) (s : ℕ) (sided : s < 2) (w : ℕ) (light : w < 256) (ms : List ℕ) (some : 0 < length ms) (each : (m : ℕ) → Among m ms → IsName (named names m)) where
-  abbrev goes : List ℕ
-  goes = flat_map (move_text names) ms
-
-  line_shown : Shown (before_moves x s w goes)
-  line_shown =
-      shown_append (spelling x) _ (shown_name x is) (omega arith, shown_append (decimal s) _ (shown_figures (decimal s) (figures s (omega arith)))
-      (omega arith, shown_append (decimal w) _ (shown_figures (decimal w) (figures w light)) (omega arith, shown_moves names ms each)))
-
-  line_pieces : pieces (before_moves x s w goes) ≡ word (quotes x) x ∷ word false (decimal s) ∷ word false (decimal w) ∷ colon ∷ pieces goes
-  line_pieces =
-      let behind_weight = 58 ∷ goes in
-      let behind_side = 32 ∷ (decimal w ++ behind_weight) in
-      let behind_name = 32 ∷ (decimal s ++ behind_side) in
-      pieces_next (before_moves x s w goes) (word (quotes x) x) behind_name (name_back x behind_name is refl)
-      ∙ ap (λ ps. word (quotes x) x ∷ ps)
-      (pieces_next behind_name (word false (decimal s)) behind_side (blank_back (decimal s ++ behind_side) ∙ number_back s behind_side (omega arith) refl)
-      ∙ ap (λ ps. word false (decimal s) ∷ ps)
-      (pieces_next behind_side (word false (decimal w)) behind_weight (blank_back (decimal w ++ behind_weight) ∙ number_back w behind_weight light refl)
-      ∙ ap (λ ps. word false (decimal w) ∷ ps) (pieces_next behind_weight colon goes refl)))
-
-  abbrev entry : Entry
-  entry = record { named = x; side = s; weighs = w; goes = map (named names) ms }
-
-  moved : (ms : List ℕ) → 0 < length ms → row_moves x s w (some_names (Ok (map (named names) ms))) ≡ place (record { named = x; side = s; weighs = w; goes = map (named names) ms })
-  moved [] h = absurd (omega arith)
-  moved (m ∷ ms) h = refl
-
-  line_held : held (before_moves x s w goes) ≡ place entry
-  line_held =
-      ap (λ l. row (pieces l)) (bared_shown (before_moves x s w goes) line_shown)
-      ∙ ap row line_pieces
-      ∙ ap (λ o. row_side x (or_fault o Side (word false (decimal w) ∷ colon ∷ pieces goes))) (side_back s sided)
-      ∙ ap (λ o. row_weight x s (or_fault o Weight (colon ∷ pieces goes))) (weighs_back w light)
-      ∙ ap (λ r. row_moves x s w (some_names r)) (names_back names ms each)
-      ∙ moved ms some
+use Rattle.std.specs.List.{flat_map, range_with_len}
+use Rattle.std.proofs.lemmas.List.{length-map, length-take-le, get_or-take, take_more, take_all}
+use Rattle.std.proofs.lemmas.Bool.{cond-true, cond-false, lt-ltb, le-ltb, le-leb, cases_lt}
+use Rattle.endless.specs.Games.{Place, Game, Reads, nth, opt, whose, weight, Among, first, later, row as words_of}
+use Rattle.endless.specs.Graph.{moves, edges}
+use Rattle.endless.proofs.Places.{ok_size, side_below, weight_below, to_place, has_move}
+use Rattle.drawing.specs.Form.{Entry, nothing, place, row}
+use Rattle.drawing.specs.Reading.{lines, held, index_of, many_moves, and_then, or_unknown, add_new, name_line, name_lines, goals, word_line, word_lines, some_places, reading}
+use Rattle.drawing.specs.Drawn.{with_entry, entries, Good, AllGood, Places, Drawn}
+use Rattle.drawing.specs.Spelling.{IsName}
+use Rattle.drawing.specs.Sheets.{named, line_of, line_text, sheet, NamesOf, Draws}
+use Rattle.drawing.proofs.Indices.{index_some}
+use Rattle.drawing.proofs.Apartness.{index_is}
+use Rattle.drawing.proofs.Pieces.{pieces_none}
+use Rattle.drawing.proofs.Printables.{Printable, split_line}
+use Rattle.drawing.proofs.LinesBack.{line_printable, line_held}
 
 -- what stands at an index, and what behind it
 drop_cons : {A : Type 0} (l : List A) (i : ℕ) (d y : A) (ys : List A) → drop i l ≡ y ∷ ys → (nth l i ≡ some y) × (get_or l i d ≡ y) × (drop (suc i) l ≡ ys)
@@ -132,8 +37,8 @@ module _ (g : Game) (names : List (List ℕ)) (words : List ℕ) (r : Reads word
     abbrev said : Entry
     said = record { named = named names k; side = whose g k; weighs = weight g k; goes = map (named names) (moves g k) }
 
-    shown_at : Shown (line_of g names k)
-    shown_at = line_shown names (named names k) (n.each k (omega (arith, n.many))) (whose g k) (side_below r k) (weight g k) (weight_below r k) (moves g k) (some_move (moves g k) (has_move r k l)) each
+    printable_at : Printable (line_of g names k)
+    printable_at = line_printable names (named names k) (n.each k (omega (arith, n.many))) (whose g k) (side_below r k) (weight g k) (weight_below r k) (moves g k) (some_move (moves g k) (has_move r k l)) each
 
     held_at : held (line_of g names k) ≡ place said
     held_at = line_held names (named names k) (n.each k (omega (arith, n.many))) (whose g k) (side_below r k) (weight g k) (weight_below r k) (moves g k) (some_move (moves g k) (has_move r k l)) each
@@ -154,7 +59,7 @@ module _ (g : Game) (names : List (List ℕ)) (words : List ℕ) (r : Reads word
   lines_back a (suc m) h =
       let rest = flat_map (line_text g names) (range_with_len (a + 1) m) in
       ap lines (append_assoc (line_of g names a) (10 ∷ []) rest)
-      ∙ split_line (line_of g names a) rest (shown_at a (omega arith))
+      ∙ split_line (line_of g names a) rest (printable_at a (omega arith))
       ∙ ap (λ ls. line_of g names a ∷ ls) (lines_back (a + 1) m (omega arith))
 
   all_good : (a m : ℕ) → a + m ≤ length g → AllGood (some_lines a m ++ ([] ∷ []))
@@ -177,8 +82,7 @@ module _ (g : Game) (names : List (List ℕ)) (words : List ℕ) (r : Reads word
   places_said : (a : ℕ) (ps : List Place) → drop a g ≡ ps → Places names (some_said a (length ps)) ps
   places_said a [] e = tt
   places_said a (p ∷ ps) e =
-      let t = drop_cons g a p p ps e in
-      (
+      let t = drop_cons g a p p ps e in (
         record {
           owns = sym (ap (λ o. opt o 0 (λ q. q.whose)) t.0);
           heavy = sym (ap (λ o. opt o 0 (λ q. q.weight)) t.0);
@@ -201,6 +105,81 @@ module _ (g : Game) (names : List (List ℕ)) (words : List ℕ) (r : Reads word
         places = subst (λ x. Places names x g) (sym es) (places_said 0 g refl);
       }
 
+  -- the reader finds each name where it stands
+  index_named : (i : ℕ) → i < length names → index_of (named names i) names ≡ Some i
+  index_named i l =
+      let t = index_some (named names i) names i l refl in
+      let u = index_is (named names i) names t.0 t.1 in
+      t.1 ∙ ap Some (⊎_elim (λ h. absurd (n.different t.0 i h l u.1)) (λ h. ⊎_elim (λ k. absurd (n.different i t.0 k u.0 (sym u.1))) (λ k. omega (arith, h, k)) (cases_lt i t.0)) (cases_lt t.0 i))
+
+  none_before : (a : ℕ) → a < length names → index_of (named names a) (take a names) ≡ None
+  none_before a l = at (index_of (named names a) (take a names)) refl
+    where
+      at : (o : Option ℕ) → index_of (named names a) (take a names) ≡ o → o ≡ None
+      at None e = refl
+      at (Some i) e =
+          let t = index_is (named names a) (take a names) i e in
+          let low : i < a = omega (arith, t.0, length-take-le a names (omega arith)) in
+          absurd (n.different i a low l (sym (get_or-take a names i [] low) ∙ t.1))
+
+  names_read : (k a m : ℕ) → a + m ≤ length g → name_lines k (take a names) (some_lines a m ++ ([] ∷ [])) ≡ Ok (take (a + m) names)
+  names_read k a zero h =
+      let same : a ≡ a + 0 = omega arith in
+      ap (λ x. and_then (name_line k (take a names) x) (λ more. name_lines (suc k) more [])) none_held ∙ ap (λ i. Ok (take i names)) same
+  names_read k a (suc m) h =
+      let same : (a + 1) + m ≡ a + suc m = omega arith in
+      let many : length (take a names) ≡ a = length-take-le a names (omega (arith, n.many)) in
+      let added : add_new k (take a names) (named names a) (index_of (named names a) (take a names)) ≡ Ok (take (a + 1) names) =
+      ap (add_new k (take a names) (named names a)) (none_before a (omega (arith, n.many)))
+      ∙ cond-true _ _ _ (lt-ltb (length (take a names)) 16384 (omega (arith, many, n.many, (ok_size words g r).1)))
+      ∙ ap Ok (sym (take_more names a [] (omega (arith, n.many)))) in
+      ap (λ x. and_then (name_line k (take a names) x) (λ more. name_lines (suc k) more (some_lines (a + 1) m ++ ([] ∷ [])))) (held_at a (omega arith))
+      ∙ ap (λ x. and_then x (λ more. name_lines (suc k) more (some_lines (a + 1) m ++ ([] ∷ [])))) added
+      ∙ names_read (suc k) (a + 1) m (omega arith)
+      ∙ ap (λ i. Ok (take i names)) same
+
+  goals_read : (k : ℕ) (acc ms : List ℕ) → ((m : ℕ) → Among m ms → m < length names) → goals k names acc (map (named names) ms) ≡ Ok (acc ++ ms)
+  goals_read k acc [] low = ap Ok (sym (append-nil acc))
+  goals_read k acc (m ∷ ms) low =
+      ap (λ o. and_then (or_unknown k (named names m) o) (λ i. goals k names (acc ++ (i ∷ [])) (map (named names) ms))) (index_named m (low m first))
+      ∙ goals_read k (acc ++ (m ∷ [])) ms (λ i a. low i (later a))
+      ∙ ap Ok (append_assoc acc (m ∷ []) ms)
+
+  words_read : (k a used : ℕ) (acc : List ℕ) (ps : List Place) → drop a g ≡ ps → a + length ps ≤ length g → used + edges ps ≤ 64000 → word_lines k names used acc (some_lines a (length ps) ++ ([] ∷ [])) ≡ Ok (acc ++ words_of ps)
+  words_read k a used acc [] e h few = ap (λ x. and_then (word_line k names used acc x) (λ p. word_lines (suc k) names p.0 p.1 [])) none_held ∙ ap Ok (sym (append-nil acc))
+  words_read k a used acc (p ∷ ps) e h few =
+      let t = drop_cons g a p p ps e in
+      let rest = some_lines (a + 1) (length ps) ++ ([] ∷ []) in
+      let here : held (line_of g names a) ≡ place (record { named = named names a; side = p.whose; weighs = p.weight; goes = map (named names) p.moves }) =
+      held_at a (omega arith) ∙ ap (λ o. place (record { named = named names a; side = opt o 0 (λ q. q.whose); weighs = opt o 0 (λ q. q.weight); goes = map (named names) (opt o [] (λ q. q.moves)) })) t.0 in
+      let low : (m : ℕ) → Among m p.moves → m < length names = λ m x. omega (arith, n.many, to_place r a m (subst (Among m) (sym (ap (λ o. opt o [] (λ q. q.moves)) t.0)) x)) in
+      let many : length (map (named names) p.moves) ≡ length p.moves = length-map p.moves (named names) in
+      let start = acc ++ (p.whose ∷ p.weight ∷ length p.moves ∷ []) in
+      ap (λ x. and_then (word_line k names used acc x) (λ q. word_lines (suc k) names q.0 q.1 rest)) here
+      ∙ ap (λ l. and_then (cond (leb (used + l) 64000) (and_then {A = List ℕ} {B = ℕ × List ℕ} (goals k names (acc ++ (p.whose ∷ p.weight ∷ l ∷ [])) (map (named names) p.moves)) (λ more. Ok (used + l, more))) (Err (many_moves k))) (λ q. word_lines (suc k) names q.0 q.1 rest)) many
+      ∙ ap (λ x. and_then x (λ q. word_lines (suc k) names q.0 q.1 rest)) (cond-true _ _ _ (le-leb (used + length p.moves) 64000 (omega arith)))
+      ∙ ap (λ x. and_then (and_then {A = List ℕ} {B = ℕ × List ℕ} x (λ more. Ok (used + length p.moves, more))) (λ q. word_lines (suc k) names q.0 q.1 rest)) (goals_read k start p.moves low)
+      ∙ words_read (suc k) (a + 1) (used + length p.moves) (start ++ p.moves) ps (ap (λ i. drop i g) (add-one a) ∙ t.2) (omega arith) (omega arith)
+      ∙ ap Ok (append_assoc start p.moves (words_of ps) ∙ append_assoc acc (p.whose ∷ p.weight ∷ length p.moves ∷ []) (p.moves ++ words_of ps))
+
+  some_names_read : (xs : List (List ℕ)) → 0 < length xs → some_places xs ≡ Ok xs
+  some_names_read [] h = absurd (omega arith)
+  some_names_read (x ∷ xs) h = refl
+
+  sheet_read : length (sheet g names) ≤ 1572864 → edges g ≤ 64000 → reading (sheet g names) ≡ Ok (names, words)
+  sheet_read short few =
+      let all = some_lines 0 (length g) ++ ([] ∷ []) in
+      let found : name_lines 1 [] all ≡ Ok names = names_read 1 0 (length g) (omega arith) ∙ ap Ok (take_all (0 + length g) names (omega (arith, n.many))) in
+      cond-false _ _ _ (le-ltb 1572864 (length (sheet g names)) short)
+      ∙ ap (λ l. and_then (and_then (name_lines 1 [] l) some_places) (λ xs. and_then (word_lines 1 xs 0 (length xs ∷ []) l) (λ ws. Ok (xs, ws)))) (lines_back 0 (length g) (omega arith))
+      ∙ ap (λ x. and_then (and_then x some_places) (λ xs. and_then (word_lines 1 xs 0 (length xs ∷ []) all) (λ ws. Ok (xs, ws)))) found
+      ∙ ap (λ x. and_then x (λ xs. and_then (word_lines 1 xs 0 (length xs ∷ []) all) (λ ws. Ok (xs, ws)))) (some_names_read names (omega (arith, n.many, (ok_size words g r).0)))
+      ∙ ap (λ x. and_then x (λ ws. Ok (names, ws))) (words_read 1 0 0 (length names ∷ []) g refl (omega arith) (omega (arith, few)))
+      ∙ ap (λ ws. Ok (names, ws)) (ap (λ k. k ∷ words_of g) n.many ∙ sym r.is)
+
 pub made_draws : {S E : Type 0} (f : S → List ℕ) (g : Game) (names : List (List ℕ)) (r : Result S E) → IfOk r (λ s. f s ≡ sheet g names) → NamesOf g names → IfOk r (λ s. Draws (f s) g names)
-made_draws f g names (Ok s) h n = λ words reads. subst (λ text. Drawn text names words) (sym h) (written_drawn g names words reads n)
+made_draws f g names (Ok s) h n = subst (λ text. Draws text g names) (sym h) (record {
+  drawn = λ words reads. written_drawn g names words reads n;
+  read = λ words reads short few. sheet_read g names words reads n short few;
+})
 made_draws f g names (Err e) h n = tt

@@ -1,11 +1,12 @@
 -- How a game is written as a drawing.
-use Rattle.std.specs.Prelude.{◌≡◌, ◌≢◌, ℕ, ◌<◌, List, [], ◌∷◌, ◌++◌, length, flat_map, slice_index_or}
+use Rattle.std.specs.Prelude.{◌≡◌, ◌≢◌, ℕ, ◌<◌, ◌≤◌, List, [], ◌∷◌, ◌++◌, Ok, length, flat_map, slice_index_or}
 use Rattle.std.specs.List.{range_with_len}
 use Rattle.std.specs.Fmt.{decimal}
 use Rattle.endless.specs.Games.{Game, Reads, whose, weight}
-use Rattle.endless.specs.Graph.{moves}
+use Rattle.endless.specs.Graph.{moves, edges}
 use Rattle.drawing.specs.Spelling.{spelling, IsName}
 use Rattle.drawing.specs.Drawn.{Drawn}
+use Rattle.drawing.specs.Reading.{reading}
 
 -- what a place is called
 abbrev pub named : List (List ℕ) → ℕ → List ℕ
@@ -34,6 +35,7 @@ pub record NamesOf (g : Game) (names : List (List ℕ)) : Type 0 where
   pub each : (n : ℕ) → n < length names → IsName (named names n)
   pub different : (i j : ℕ) → i < j → j < length names → named names i ≢ named names j
 
--- the text draws the words of the game, with these names
-abbrev pub Draws : List ℕ → Game → List (List ℕ) → Type 0
-Draws text g names = (words : List ℕ) → Reads words g → Drawn text names words
+-- the text draws the words of the game, with these names; and where it is within the limits, it reads as them
+pub record Draws (text : List ℕ) (g : Game) (names : List (List ℕ)) : Type 0 where
+  pub drawn : (words : List ℕ) → Reads words g → Drawn text names words
+  pub read : (words : List ℕ) → Reads words g → length text ≤ 1572864 → edges g ≤ 64000 → reading text ≡ Ok (names, words)

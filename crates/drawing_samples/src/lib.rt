@@ -4,7 +4,9 @@
 #[cfg(test)]
 mod tests {
     use drawing::shown::shown_line;
-    use drawing::{Fault, Name, Quoted, Refusal, Unread, read, read_from, written};
+    use drawing::{Fault, Name, Quoted, Refusal, Unread, draw, read, read_from, written};
+    use endless::graph::Places;
+    use endless::is_game;
     use std::alloc::Global;
     use std::test::Fail;
 
@@ -57,6 +59,28 @@ mod tests {
             assert_eq!(rt; Name(name).to_string(heap)?.as_str(), as_drawn);
             assert_eq!(rt; Quoted(name).to_string(heap)?.as_str(), in_quotes);
         }
+        Ok(())
+    }
+
+    #[test]
+    fn a_game_is_drawn(rt: HostRuntime) -> Result<(), Fail> {
+        let heap = rt.alloc();
+        let d = read(
+            heap,
+            "# up and down\n \"up\" 0 007:\"a b\" up # twice\n\n\"a b\" 1 0 : up",
+        )?;
+        let words = d.words.as_slice();
+        if !is_game(words) {
+            return Err(Fail::new("no game"));
+        }
+        let mut starts = vec![in heap; [0, 0]; words[0] as usize]?;
+        let places = Places::new(words, starts.as_mut_slice());
+        let text = draw(heap, &places, d.names.as_slice())?;
+        assert_eq!(rt; text.as_str(), "up 0 7: \"a b\" up\n\"a b\" 1 0: up\n");
+        let back = read(heap, text.as_str())?;
+        assert_eq!(rt; back.words.as_slice(), words);
+        assert!(rt; back.names.len() == 2);
+        assert_eq!(rt; back.names[1].as_str(), "a b");
         Ok(())
     }
 

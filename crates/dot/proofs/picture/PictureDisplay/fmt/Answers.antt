@@ -1,7 +1,7 @@
 use Rattle.std.proofs.Common.{map, string_bytes, rules}
 use Rattle.std.proofs.Output.{has_written_append, has_written_of_eq}
 use Rattle.dot.specs.Pictures.{place_lines}
-use Rattle.dot.proofs.Rows.{one_more}
+use Rattle.drawing.proofs.Rows.{one_more}
 use Rattle.dot.proofs.picture.PictureDisplay.fmt.Goals as goal
 
 pub loop-n-preserved : goal.loop-n-preserved
