@@ -31,9 +31,11 @@ stroke p = cond p (codes " [penwidth=3]") []
 abbrev pub planned : Game → List ℕ → ℕ → ℕ → Bool
 planned g o n m = (whose g n == side o n) && opt (nth o (2 * n + 1)) false (λ to. to == m)
 
+-- the move from n to m
 abbrev pub edge_line : Game → List ℕ → ℕ → ℕ → List ℕ
 edge_line g o n m = concat (codes "  n" ∷ decimal n ∷ codes " -> n" ∷ decimal m ∷ stroke (planned g o n m) ∷ codes ";\n" ∷ [])
 
+-- a place without its moves: its number, and what is told of it
 abbrev pub node_text : ℕ → List ℕ → List ℕ → ℕ → List ℕ → List ℕ
 node_text n form name weighs looks =
     concat (codes "  n" ∷ decimal n ∷ codes " [shape=" ∷ form ∷ codes ", label=\"" ∷ escaped name ∷ codes "\\n" ∷ decimal weighs ∷ codes "\"" ∷ looks ∷ codes "];\n" ∷ [])
