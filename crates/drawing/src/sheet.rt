@@ -66,8 +66,9 @@ impl fmt::Display for Sheet<'_> {
     }
 }
 
-/// The drawing of a game whose places have these names. It is read back as the
-/// same game with the same names.
+/// The drawing of a game whose places have these names. Where a drawing may
+/// have the names and they all differ, it is read back as the same game with
+/// the same names.
 pub fn draw(heap: Global, places: &Places, names: &[String]) -> Result<String, AllocError>
     ensures is { IfOk result (λ s. string_bytes s ≡ sheet places.now (map string_bytes names.now)) }
     ensures back { NamesOf places.now (map string_bytes names.now) → IfOk result (λ s. Draws (string_bytes s) places.now (map string_bytes names.now)) }
