@@ -7,4 +7,5 @@ pub mod Lengths
 pub mod Looking
 pub mod SameWins
 pub mod Scans
+pub mod Solutions
 pub mod Writes

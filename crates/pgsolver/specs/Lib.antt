@@ -1,7 +1,9 @@
 -- PGSolver's text form of a game: what it says.
 pub mod Form
+pub mod Ids
 pub mod Listed
 pub mod Read
+pub mod Solutions
 pub mod Table
 pub mod Weights
 pub mod Wrongs

@@ -15,11 +15,13 @@ use crate::weights::NoWeights;
 use crate::wrong::Wrong;
 use std::alloc::Global;
 
+mod highest;
 mod ids;
 mod line;
 mod node;
 pub mod refusal;
 mod scan;
+mod solution;
 mod text;
 pub mod weights;
 mod words;
@@ -27,6 +29,7 @@ mod wrong;
 
 pub use node::MOST_MOVES;
 pub use refusal::{Fault, Refusal};
+pub use solution::Solution;
 pub use text::MOST_NODES;
 pub use weights::compress;
 
