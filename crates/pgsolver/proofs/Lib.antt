@@ -1,4 +1,5 @@
 pub mod Assembling
+pub mod Calling
 pub mod Compressing
 pub mod Fines
 pub mod Gathers

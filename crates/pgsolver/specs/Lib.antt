@@ -1,4 +1,5 @@
 -- PGSolver's text form of a game: what it says.
+pub mod Called
 pub mod Form
 pub mod Ids
 pub mod Listed

@@ -18,6 +18,7 @@ use std::alloc::Global;
 mod highest;
 mod ids;
 mod line;
+mod names;
 mod node;
 pub mod refusal;
 mod scan;
@@ -27,6 +28,7 @@ pub mod weights;
 mod words;
 mod wrong;
 
+pub use names::called;
 pub use node::MOST_MOVES;
 pub use refusal::{Fault, Refusal};
 pub use solution::Solution;
