@@ -10,3 +10,4 @@ pub mod SameWins
 pub mod Scans
 pub mod Solutions
 pub mod Writes
+pub mod Writing

@@ -7,4 +7,5 @@ pub mod Read
 pub mod Solutions
 pub mod Table
 pub mod Weights
+pub mod Written
 pub mod Wrongs

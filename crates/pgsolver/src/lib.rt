@@ -26,6 +26,7 @@ mod solution;
 mod text;
 pub mod weights;
 mod words;
+mod write;
 mod wrong;
 
 pub use names::called;
@@ -34,6 +35,7 @@ pub use refusal::{Fault, Refusal};
 pub use solution::Solution;
 pub use text::MOST_NODES;
 pub use weights::compress;
+pub use write::GameText;
 
 /// The most bytes of a text.
 pub const MOST_BYTES: usize = 1_048_576;

@@ -1,0 +1,106 @@
+//! A game written in PGSolver's form.
+ghost use Rattle.std.specs.Prelude.{◌≡◌, ◌<◌, Some, [], ◌∷◌, ◌++◌, All, cond, map, length, slice_index, vec_items};
+ghost use Rattle.std.specs.Fmt.{WritesOnOk};
+ghost use Rattle.std.specs.Str.{is_utf8};
+ghost use Rattle.pgsolver.specs.Ids.{ids_of, names_of};
+ghost use Rattle.pgsolver.specs.Written.{single, written_name, name_text, successors_text, place_text, game_text};
+
+use crate::Named;
+use crate::highest::highest;
+use endless::graph::Places;
+use std::fmt::Write;
+use std::{fmt, str};
+
+/// A character of a name as it is written: a double quote would end the name, so a single one stands for it.
+fn single(c: char) -> char
+    ensures { result ≡ single c }
+{
+    if c == '"' { '\'' } else { c }
+}
+
+/// The name in double quotes.
+fn write_quoted<W: fmt::Write>(f: &mut fmt::Formatter<W>, name: &str) -> fmt::Result
+    ensures { WritesOnOk W.write_str_gives f.old result (34 ∷ (map single name.now ++ (34 ∷ []))) f.new }
+{
+    f.write_char('"')?;
+    for c in name.chars() {
+        f.write_char(single(c))?;
+    }
+    f.write_char('"')
+}
+
+/// The name as text; empty where it is none.
+fn text(name: &[u8]) -> &str
+    ensures { result.now ≡ cond (is_utf8 name.now) name.now [] }
+{
+    str::from_utf8(name).unwrap_or("")
+}
+
+/// The name in double quotes behind a blank, or nothing where it is empty or no text.
+fn write_name<W: fmt::Write>(f: &mut fmt::Formatter<W>, name: &[u8]) -> fmt::Result
+    ensures { WritesOnOk W.write_str_gives f.old result (name_text (written_name name.now)) f.new }
+{
+    let name = text(name);
+    if name.is_empty() {
+        return Ok(());
+    }
+    f.write_char(' ')?;
+    write_quoted(f, name)
+}
+
+/// The ids of the places that the moves lead to, with a comma between them.
+fn write_successors<W: fmt::Write>(
+    f: &mut fmt::Formatter<W>,
+    named: &[Named],
+    moves: &[u32],
+) -> fmt::Result
+    requires { All (λ m. m < length named.now) moves.now }
+    ensures { WritesOnOk W.write_str_gives f.old result (successors_text (map (slice_index (ids_of named.now)) moves.now)) f.new }
+{
+    if let [first, rest @ ..] = moves {
+        let id = named[*first as usize].id;
+        write!(f, "{id}")?;
+        for to in rest {
+            let id = named[*to as usize].id;
+            write!(f, ",{id}")?;
+        }
+    }
+    Ok(())
+}
+
+/// A game with the ids and names of its places, which is printed in PGSolver's form: `parity N;`, where N is the highest id, and ID PRIORITY OWNER SUCC,SUCC,.. "NAME"; for each place, without the name where it is empty.
+#[derive(Clone, Copy)]
+pub struct GameText<'a> {
+    pub game: &'a Places<'a>,
+    pub named: &'a [Named],
+    pub ghost each: { length named.now ≡ length game.now },
+}
+
+impl<'a> GameText<'a> {
+    fn write_place<W: fmt::Write>(self, f: &mut fmt::Formatter<W>, n: u32) -> fmt::Result
+        requires { n < length self.game.now }
+        ensures { WritesOnOk W.write_str_gives f.old result (place_text (ids_of self.entry.named.now) (names_of self.entry.named.now) self.entry.game.now n) f.new }
+    {
+        let place = &self.named[n as usize];
+        let id = place.id;
+        let head = self.game.head(n);
+        let (priority, owner) = (head.weight, head.whose);
+        write!(f, "{id} {priority} {owner} ")?;
+        write_successors(f, self.named, self.game.moves(n))?;
+        write_name(f, place.name.as_slice())?;
+        f.write_str(";\n")
+    }
+}
+
+impl<'a> fmt::Display for GameText<'a> {
+    ghost output = { λ t. Some (game_text (ids_of t.named.now) (names_of t.named.now) t.game.now) };
+
+    fn fmt<W: fmt::Write>(&self, f: &mut fmt::Formatter<W>) -> fmt::Result {
+        let highest = highest(self.named);
+        writeln!(f, "parity {highest};")?;
+        for n in 0..self.game.len() {
+            self.write_place(f, n)?;
+        }
+        Ok(())
+    }
+}
