@@ -1,22 +1,21 @@
 -- What places are called.
-use Rattle.std.proofs.Common.{◌≡◌, ℕ, zero, suc, ◌+◌, ◌^◌, ◌<◌, ◌≤◌, Bool, true, false, cond, List, [], ◌∷◌, ◌++◌, length, map, take, get_or, Some, Option, unwrap_or, BTreeMap, Bor, Global, String, string_bytes, bytes_eq, count_by, sym, refl, ap, subst, ◌∙◌, ⊎_elim, arith, rules}
+use Rattle.std.proofs.Common.{◌≡◌, ℕ, zero, suc, ◌+◌, ◌^◌, ◌<◌, ◌≤◌, Bool, true, false, cond, List, [], ◌∷◌, ◌++◌, length, map, take, get_or, Some, Option, unwrap_or, BTreeMap, Bor, Global, String, string_bytes, bytes_eq, count_by, sym, refl, ap, subst, ◌∙◌, ⊎_elim, arith}
 use Rattle.std.specs.BTreeMap.{get_by}
 use Rattle.std.specs.Cmp.Lexicographic.{slice_cmp, bytes_decides, nat_list_eq_equiv}
 use Rattle.std.specs.Fmt.{decimal}
 use Rattle.std.specs.Map.{update}
 use Rattle.std.specs.Ordering.{nat_cmp}
-use Rattle.std.specs.Str.Parse.{digits_value}
 use Rattle.std.specs.Vec.{vec_items}
 use Rattle.std.proofs.lemmas.Bool.{cond-true, cases_lt}
 use Rattle.std.proofs.lemmas.Bool.Decides.{nat_tests}
-use Rattle.std.proofs.lemmas.Fmt.{decimal_injective, digits_decimal}
+use Rattle.std.proofs.lemmas.Fmt.{decimal_injective}
 use Rattle.std.proofs.lemmas.Grind.{common_steps}
 use Rattle.std.proofs.lemmas.List.{length-take-le, length-map, map_push, take_more, get_or-map}
 use Rattle.std.proofs.lemmas.List.Sums.{count_by_more_yes, count_by_more_no, count_by-le-length, sum_by-cons}
-use Rattle.std.proofs.lemmas.Str.Parse.{IsNumeralModel, numerals_by_value}
 use Rattle.pgsolver.specs.declared.Named.{Named}
 use Rattle.pgsolver.specs.Called.{bearers, digits_alone, tells, called, ToldApart}
 use Rattle.pgsolver.specs.Ids.{ids_of}
+use Rattle.pgsolver.proofs.Numerals.{decimal_alone}
 
 -- how many bear a name, with one place more
 bearers_more : (places : List Named) (n : ℕ) (d : Named) (name : List ℕ) → n < length places → bearers (take (n + 1) places) name ≡ bearers (take n places) name + cond (bytes_eq name (vec_items (get_or places n d).name)) 1 0
@@ -53,12 +52,6 @@ counts_twice p [] i j d l h e f = absurd (omega arith)
 counts_twice p (x ∷ xs) i zero d l h e f = absurd (omega arith)
 counts_twice p (x ∷ xs) zero (suc j) d l h e f = omega (arith, sum_by-cons (λ y. cond (p y) 1 0) x xs, cond-true {A = ℕ} (p x) 1 0 e, counts_once p xs j d (omega arith) f)
 counts_twice p (x ∷ xs) (suc i) (suc j) d l h e f = omega (arith, sum_by-cons (λ y. cond (p y) 1 0) x xs, counts_twice p xs i j d (omega arith) (omega arith) e f)
-
-numerals : IsNumeralModel (λ ds. digits_alone ds ≡ true) (digits_value 10)
-numerals = numerals_by_value _ (search rules)
-
-decimal_alone : (n : ℕ) → n < 2 ^ 64 → digits_alone (decimal n) ≡ true
-decimal_alone n h = digits_decimal numerals n h
 
 pub id_of : (places : List Named) (k : ℕ) (d : Named) → k < length places → get_or (ids_of places) k 0 ≡ (get_or places k d).id
 id_of places k d m = get_or-map (λ p. p.id) places k d 0 m

@@ -6,6 +6,8 @@ pub mod Gathers
 pub mod Goals
 pub mod Lengths
 pub mod Looking
+pub mod Numerals
+pub mod Rereading
 pub mod SameWins
 pub mod Scans
 pub mod Solutions

@@ -1,9 +1,11 @@
 -- A game in PGSolver's form.
-use Rattle.std.specs.Prelude.{ℕ, zero, suc, cond, List, [], ◌∷◌, ◌++◌, map, length, ◌==◌, codes, decimal, slice_index, slice_index_or}
+use Rattle.std.specs.Prelude.{◌≡◌, ℕ, zero, suc, ◌<◌, cond, List, [], ◌∷◌, ◌++◌, map, length, Ok, ◌==◌, codes, decimal, slice_index, slice_index_or}
 use Rattle.std.specs.List.{flat_map}
 use Rattle.std.specs.Str.{is_utf8}
 use Rattle.endless.specs.Games.{Game, whose, weight}
 use Rattle.endless.specs.Graph.{moves}
+use Rattle.endless.specs.Sides.{number}
+use Rattle.pgsolver.specs.Form.{Entry, entries}
 use Rattle.pgsolver.specs.Ids.{highest}
 
 -- a name holds no double quote: a single one stands for it
@@ -45,3 +47,18 @@ place_texts ids names g (suc n) = place_texts ids names g n ++ place_text ids na
 -- parity N; and the lines of all places
 abbrev pub game_text : List ℕ → List (List ℕ) → Game → List ℕ
 game_text ids names g = codes "parity " ++ (decimal (highest ids) ++ (codes ";\n" ++ place_texts ids names g (length g)))
+
+-- what a node says is what is known of place n
+pub record SaysPlace (ids : List ℕ) (names : List (List ℕ)) (g : Game) (n : ℕ) (e : Entry) : Type 0 where
+  pub id : e.first.id ≡ slice_index ids n
+  pub priority : e.first.priority ≡ weight g n
+  pub owner : number e.first.owner ≡ whose g n
+  pub goes : e.goes ≡ successors ids g n
+  pub named : e.named ≡ written_name (slice_index_or names n [])
+
+-- the text reads as one node for each place, in their order, which says what is known of the place
+pub record ReadsBack (text : List ℕ) (ids : List ℕ) (names : List (List ℕ)) (g : Game) : Type 0 where
+  pub nodes : List Entry
+  pub said : entries text ≡ Ok nodes
+  pub as_many : length nodes ≡ length g
+  pub says : (n : ℕ) (d : Entry) → n < length g → SaysPlace ids names g n (slice_index_or nodes n d)

@@ -1,13 +1,15 @@
 //! A game written in PGSolver's form.
-ghost use Rattle.std.specs.Prelude.{◌≡◌, ◌<◌, Some, [], ◌∷◌, ◌++◌, All, cond, map, length, slice_index, vec_items};
+ghost use Rattle.std.specs.Prelude.{◌≡◌, ◌<◌, ◌≤◌, Some, [], ◌∷◌, ◌++◌, All, cond, map, length, slice_index, IfOk, vec_items, string_bytes};
 ghost use Rattle.std.specs.Fmt.{WritesOnOk};
 ghost use Rattle.std.specs.Str.{is_utf8};
 ghost use Rattle.pgsolver.specs.Ids.{ids_of, names_of};
-ghost use Rattle.pgsolver.specs.Written.{single, written_name, name_text, successors_text, place_text, game_text};
+ghost use Rattle.pgsolver.specs.Written.{single, written_name, name_text, successors_text, place_text, game_text, ReadsBack};
+ghost use Rattle.endless.specs.Graph.{edges};
 
 use crate::Named;
 use crate::highest::highest;
 use endless::graph::Places;
+use std::alloc::{AllocError, Global};
 use std::fmt::Write;
 use std::{fmt, str};
 
@@ -90,6 +92,18 @@ impl<'a> GameText<'a> {
         write_name(f, place.name.as_slice())?;
         f.write_str(";\n")
     }
+
+    /// The text, which reads as the same nodes again where there are no more successors than a text may have.
+    pub fn written(self, heap: Global) -> Result<String, AllocError>
+        ensures is { IfOk result (λ s. string_bytes s ≡ game_text (ids_of self.entry.named.now) (names_of self.entry.named.now) self.entry.game.now) }
+        ensures back { edges self.entry.game.now ≤ 64000 → IfOk result (λ s. ReadsBack (string_bytes s) (ids_of self.entry.named.now) (names_of self.entry.named.now) self.entry.game.now) }
+    {
+        // What `back` rests on and no field tells: that each id is a word, and
+        // that some words read as the game.
+        let _highest = highest(self.named);
+        let _len = self.game.len();
+        self.to_string(heap)
+    }
 }
 
 impl<'a> fmt::Display for GameText<'a> {
@@ -101,6 +115,69 @@ impl<'a> fmt::Display for GameText<'a> {
         for n in 0..self.game.len() {
             self.write_place(f, n)?;
         }
+        Ok(())
+    }
+}
+
+#[cfg(test)]
+mod tests {
+    use super::*;
+    use crate::{Listing, read};
+    use endless::is_game;
+    use std::test::Fail;
+
+    // 0 is side 0's, weight 1, to 1 or 2; 1 is side 1's, weight 2, to 0; 2 is
+    // side 1's, weight 3, to 0 or itself.
+    const THREE: [u32; 15] = [3, 0, 1, 2, 1, 2, 1, 2, 1, 0, 1, 3, 2, 0, 2];
+
+    // This game as it is written, with these ids and names.
+    fn text_of(heap: Global, ids: &[u32], names: &[&[u8]]) -> Result<String, Fail> {
+        let mut named = Vec::new(heap);
+        for (id, name) in ids.iter().zip(names) {
+            named.push(Named {
+                id: *id,
+                name: Vec::from_slice(heap, *name)?,
+            })?;
+        }
+        let mut starts = vec![in heap; [0, 0]; 3]?;
+        if !is_game(&THREE) || named.len() != 3 {
+            return Err(Fail::new("no game, or not three places"));
+        }
+        let game = Places::new(&THREE, starts.as_mut_slice());
+        let text = GameText {
+            game: &game,
+            named: named.as_slice(),
+        };
+        let written = text.written(heap)?;
+        if text.to_string(heap)?.as_str() != written.as_str() {
+            return Err(Fail::new("it is printed otherwise than it is written"));
+        }
+        Ok(written)
+    }
+
+    #[test]
+    fn writes_games(rt: HostRuntime) -> Result<(), Fail> {
+        let text = text_of(rt.alloc(), &[7, 30, 4], &[b"a \"b\"", b"", b"\xff"])?;
+        assert_eq!(rt;
+            text.as_str(),
+            "parity 30;\n7 1 0 30,4 \"a 'b'\";\n30 2 1 7;\n4 3 1 7,4;\n"
+        );
+        Ok(())
+    }
+
+    #[test]
+    fn reads_what_is_written(rt: HostRuntime) -> Result<(), Fail> {
+        let heap = rt.alloc();
+        let names: [&[u8]; 3] = ["ä;\n1 0".as_bytes(), b"", b" "];
+        let text = text_of(heap, &[7, 4294967295, 0], &names)?;
+        let listing = read(heap, text.as_bytes()).map_err(|_| Fail::new("refused"))?;
+        let Listing { words, places } = listing;
+        assert_eq!(rt; words.as_slice(), THREE.as_slice());
+        assert_eq!(rt; places.len(), 3);
+        for (place, name) in places.iter().zip(names) {
+            assert_eq!(rt; place.name.as_slice(), name);
+        }
+        assert_eq!(rt; places[1].id, 4294967295);
         Ok(())
     }
 }
