@@ -1,5 +1,5 @@
 -- A number that is written is read again.
-use Rattle.std.proofs.Common.{◌≡◌, ℕ, zero, suc, ◌+◌, ◌-◌, ◌*◌, ◌^◌, ◌<◌, ◌≤◌, ◌&&◌, Bool, true, false, cond, ltb, List, [], ◌∷◌, ◌++◌, length, drop, Ok, Err, Result, sym, refl, ap, ◌∙◌, subst, arith, rules}
+use Rattle.std.proofs.Common.{◌≡◌, ℕ, suc, ◌+◌, ◌-◌, ◌*◌, ◌^◌, ◌<◌, ◌≤◌, true, false, List, [], ◌∷◌, ◌++◌, length, drop, Ok, sym, refl, ap, ◌∙◌, arith, rules}
 use Rattle.std.specs.Char.{is_ascii_digit}
 use Rattle.std.specs.Fmt.{decimal}
 use Rattle.std.specs.List.{prefix_len}
@@ -8,10 +8,8 @@ use Rattle.std.proofs.lemmas.Bool.Decides.{nat_tests}
 use Rattle.std.proofs.lemmas.Fmt.{digits_decimal, digits_value-decimal, decimal_nonempty}
 use Rattle.std.proofs.lemmas.Str.Parse.{IsNumeralModel, numerals_by_fold}
 use Rattle.pgsolver.specs.declared.refusal.Fault.{Fault}
-use Rattle.pgsolver.specs.declared.refusal.Fault.TheVariants.{Large}
-use Rattle.pgsolver.specs.declared.refusal.Slip.{Slip}
 use Rattle.pgsolver.specs.Called.{digits_alone}
-use Rattle.pgsolver.specs.Form.{blank, skip, slip, digits, numeral, number}
+use Rattle.pgsolver.specs.Form.{blank, skip, digits, numeral, number}
 
 -- the number that digits are, behind those that were read
 read_on : ℕ → List ℕ → ℕ

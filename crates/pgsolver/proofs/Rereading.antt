@@ -1,9 +1,9 @@
 -- A game that is written is read again.
-use Rattle.std.proofs.Common.{◌≡◌, ℕ, zero, suc, ◌+◌, ◌<◌, ◌≤◌, ◌==◌, Bool, true, false, not, cond, List, [], ◌∷◌, ◌++◌, length, map, take, drop, get_or, Some, None, Ok, Err, Result, sym, refl, ap, ◌∙◌, subst, append_assoc, append-nil, add-one, add-zero, zero-add, arith}
+use Rattle.std.proofs.Common.{◌≡◌, ℕ, zero, suc, ◌+◌, ◌<◌, ◌≤◌, ◌==◌, Bool, true, false, not, cond, List, [], ◌∷◌, ◌++◌, length, map, drop, get_or, Some, None, Ok, Result, sym, refl, ap, ◌∙◌, subst, append_assoc, append-nil, add-one, add-zero, zero-add, arith}
 use lib.Chars.{codes}
 use Rattle.std.specs.Char.{is_ascii_digit}
 use Rattle.std.specs.Fmt.{decimal}
-use Rattle.std.specs.List.{slice_index, fold, flat_map, list_all, prefix_len, position, position_or_len}
+use Rattle.std.specs.List.{slice_index, fold, flat_map, list_all, prefix_len, position_or_len}
 use Rattle.std.specs.Str.{is_utf8}
 use Rattle.std.proofs.Math.Nat.{le-max_left, le-max_right}
 use Rattle.std.proofs.lemmas.Bool.{cond-true, cond-false, lt-ltb, and_parts, and_from}
@@ -19,7 +19,7 @@ use Rattle.endless.proofs.Places.{ok_size, side_below, weight_below, has_move}
 use Rattle.pgsolver.specs.declared.refusal.Fault.TheVariants.{Number, NoSuccessor}
 use Rattle.pgsolver.specs.declared.refusal.Slip.{Slip}
 use Rattle.pgsolver.specs.declared.node.Head.{Head}
-use Rattle.pgsolver.specs.Form.{Entry, node, nodes, entries, header, header_on, parity_word, start_word, skip, starts, and_then, behind, number, owner_of, owner, head, goals, name_up_to, name_on, name_in, name, ended, tail}
+use Rattle.pgsolver.specs.Form.{Entry, node, nodes, entries, header, header_on, parity_word, start_word, skip, starts, and_then, behind, number, owner_of, owner, head, goals, name_up_to, name_in, name, ended, tail}
 use Rattle.pgsolver.specs.Ids.{highest}
 use Rattle.pgsolver.specs.Written.{single, written_name, successors, successors_text, name_text, node_text, place_text, place_texts, game_text, SaysPlace, ReadsBack}
 use Rattle.pgsolver.proofs.Gathers.{LeftNodes, nodes_first, nodes_all, nodes_more, node_is}

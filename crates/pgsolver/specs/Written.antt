@@ -48,7 +48,7 @@ place_texts ids names g (suc n) = place_texts ids names g n ++ place_text ids na
 abbrev pub game_text : List ℕ → List (List ℕ) → Game → List ℕ
 game_text ids names g = codes "parity " ++ (decimal (highest ids) ++ (codes ";\n" ++ place_texts ids names g (length g)))
 
--- what a node says is what is known of place n
+-- a node that says of place n its id, its weight, whose it is, the ids of its successors, and its name as it is written
 pub record SaysPlace (ids : List ℕ) (names : List (List ℕ)) (g : Game) (n : ℕ) (e : Entry) : Type 0 where
   pub id : e.first.id ≡ slice_index ids n
   pub priority : e.first.priority ≡ weight g n
@@ -56,7 +56,7 @@ pub record SaysPlace (ids : List ℕ) (names : List (List ℕ)) (g : Game) (n : 
   pub goes : e.goes ≡ successors ids g n
   pub named : e.named ≡ written_name (slice_index_or names n [])
 
--- the text reads as one node for each place, in their order, which says what is known of the place
+-- the text reads as one such node for each place, in their order
 pub record ReadsBack (text : List ℕ) (ids : List ℕ) (names : List (List ℕ)) (g : Game) : Type 0 where
   pub nodes : List Entry
   pub said : entries text ≡ Ok nodes

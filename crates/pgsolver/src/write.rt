@@ -70,7 +70,7 @@ fn write_successors<W: fmt::Write>(
     Ok(())
 }
 
-/// A game with the ids and names of its places, which is printed in PGSolver's form: `parity N;`, where N is the highest id, and ID PRIORITY OWNER SUCC,SUCC,.. "NAME"; for each place, without the name where it is empty.
+/// A game with the ids and names of its places, which is printed in PGSolver's form: `parity N;`, where N is the highest id, and ID PRIORITY OWNER SUCC,SUCC,.. "NAME"; for each place. A name that is empty or no text is left out, and a double quote in a name becomes a single one.
 #[derive(Clone, Copy)]
 pub struct GameText<'a> {
     pub game: &'a Places<'a>,
@@ -93,7 +93,7 @@ impl<'a> GameText<'a> {
         f.write_str(";\n")
     }
 
-    /// The text, which reads as the same nodes again where there are no more successors than a text may have.
+    /// The text. It reads as the same nodes again, where there are no more successors than a text may have.
     pub fn written(self, heap: Global) -> Result<String, AllocError>
         ensures is { IfOk result (λ s. string_bytes s ≡ game_text (ids_of self.entry.named.now) (names_of self.entry.named.now) self.entry.game.now) }
         ensures back { edges self.entry.game.now ≤ 64000 → IfOk result (λ s. ReadsBack (string_bytes s) (ids_of self.entry.named.now) (names_of self.entry.named.now) self.entry.game.now) }

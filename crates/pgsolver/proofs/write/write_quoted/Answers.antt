@@ -1,10 +1,9 @@
-use Rattle.std.proofs.Common.{[], ◌∷◌, ◌++◌, map, refl, ap, ◌∙◌, subst, rules}
+use Rattle.std.proofs.Common.{[], ◌++◌, map, ap, ◌∙◌, rules}
 use lib.Utf8.{encode}
-use Rattle.std.specs.Fmt.{HasWritten}
 use Rattle.std.specs.Str.Iter.{chars_rest}
 use Rattle.std.proofs.Output.{has_written_append}
 use Rattle.pgsolver.specs.Written.{single}
-use Rattle.pgsolver.proofs.Writing.{single_pushed, single_over}
+use Rattle.pgsolver.proofs.Writing.{single_pushed}
 use Rattle.pgsolver.proofs.write.write_quoted.Goals as goal
 
 pub loop-c-init : goal.loop-c-init

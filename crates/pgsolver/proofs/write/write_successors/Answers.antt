@@ -1,10 +1,8 @@
-use Rattle.std.proofs.Common.{◌≡◌, ◌-◌, ◌<◌, List, ℕ, [], ◌∷◌, ◌++◌, map, length, drop, get_or, take, refl, ap, sym, subst, arith}
+use Rattle.std.proofs.Common.{◌-◌, ◌<◌, List, ℕ, ◌∷◌, length, drop, get_or, take, refl, sym, subst}
 use Rattle.std.specs.Fmt.{HasWritten, decimal}
 use Rattle.std.specs.List.{slice_index}
-use Rattle.std.proofs.lemmas.Grind.{common_steps}
 use Rattle.std.proofs.Output.{has_written_append}
 use Rattle.pgsolver.specs.Ids.{ids_of}
-use Rattle.pgsolver.specs.Written.{successors_text}
 use Rattle.pgsolver.proofs.Calling.{id_of}
 use Rattle.pgsolver.proofs.Writing.{successors_more, later_within}
 use Rattle.pgsolver.proofs.write.write_successors.Goals as goal

@@ -1,4 +1,4 @@
-use Rattle.std.proofs.Common.{◌∷◌, List, map, get_or, take}
+use Rattle.std.proofs.Common.{◌∷◌, map, get_or, take}
 use Rattle.std.specs.Fmt.{HasWritten, IsPlainFormatter}
 use Rattle.pgsolver.specs.Ids.{ids_of}
 use Rattle.pgsolver.specs.Written.{successors_text}

@@ -1,4 +1,4 @@
-use Rattle.std.proofs.Common.{◌<◌, length, refl, sym, subst, arith}
+use Rattle.std.proofs.Common.{◌<◌, refl, sym, subst, arith}
 use Rattle.std.specs.Fmt.{HasWritten}
 use Rattle.std.specs.List.{All}
 use Rattle.std.proofs.Output.{has_written_append}
