@@ -12,16 +12,18 @@ use std::fmt;
 use std::fmt::Write;
 
 /// An answer to a game, which is printed in PGSolver's form of solutions: `paritysol N;`, where N is the highest id, and ID WINNER MOVE; for each place, without the move where it is not the winner that moves there.
+// A lifetime for each reference: with one for all, a function to which the game,
+// the ids and the answer are lent could not put them together.
 #[derive(Clone, Copy)]
-pub struct Solution<'a> {
-    pub game: &'a Places<'a>,
-    pub named: &'a [Named],
+pub struct Solution<'g, 'w, 'n, 'a> {
+    pub game: &'g Places<'w>,
+    pub named: &'n [Named],
     pub answer: &'a [u32],
     pub ghost each: { length named.now ≡ length game.now },
     pub ghost answered: { 2 * length game.now ≤ length answer.now },
 }
 
-impl<'a> Solution<'a> {
+impl<'g, 'w, 'n, 'a> Solution<'g, 'w, 'n, 'a> {
     /// Where the winner of a place moves, by the id: `None` where it is not the winner that moves there, and where the answer names no place.
     fn winners_move(self, n: u32) -> Option<u32>
         requires { n < length self.game.now }
@@ -49,7 +51,7 @@ impl<'a> Solution<'a> {
     }
 }
 
-impl<'a> fmt::Display for Solution<'a> {
+impl<'g, 'w, 'n, 'a> fmt::Display for Solution<'g, 'w, 'n, 'a> {
     ghost output = { λ s. Some (solution (ids_of s.named.now) s.game.now s.answer.now) };
 
     fn fmt<W: fmt::Write>(&self, f: &mut fmt::Formatter<W>) -> fmt::Result {

@@ -71,14 +71,15 @@ fn write_successors<W: fmt::Write>(
 }
 
 /// A game with the ids and names of its places, which is printed in PGSolver's form: `parity N;`, where N is the highest id, and ID PRIORITY OWNER SUCC,SUCC,.. "NAME"; for each place. A name that is empty or no text is left out, and a double quote in a name becomes a single one.
+// A lifetime for each reference, as in `Solution`.
 #[derive(Clone, Copy)]
-pub struct GameText<'a> {
-    pub game: &'a Places<'a>,
-    pub named: &'a [Named],
+pub struct GameText<'g, 'w, 'n> {
+    pub game: &'g Places<'w>,
+    pub named: &'n [Named],
     pub ghost each: { length named.now ≡ length game.now },
 }
 
-impl<'a> GameText<'a> {
+impl<'g, 'w, 'n> GameText<'g, 'w, 'n> {
     fn write_place<W: fmt::Write>(self, f: &mut fmt::Formatter<W>, n: u32) -> fmt::Result
         requires { n < length self.game.now }
         ensures { WritesOnOk W.write_str_gives f.old result (place_text (ids_of self.entry.named.now) (names_of self.entry.named.now) self.entry.game.now n) f.new }
@@ -106,7 +107,7 @@ impl<'a> GameText<'a> {
     }
 }
 
-impl<'a> fmt::Display for GameText<'a> {
+impl<'g, 'w, 'n> fmt::Display for GameText<'g, 'w, 'n> {
     ghost output = { λ t. Some (game_text (ids_of t.named.now) (names_of t.named.now) t.game.now) };
 
     fn fmt<W: fmt::Write>(&self, f: &mut fmt::Formatter<W>) -> fmt::Result {
