@@ -2,17 +2,21 @@ pub mod Apartness
 mod Cases
 pub mod Counts
 pub mod Entries
-pub mod Files
 pub mod Gaming
 pub mod Indices
 pub mod Lexes
 pub mod Lines
+pub mod LinesBack
 pub mod Moving
+pub mod Numbers
 pub mod Pieces
+pub mod Printables
 pub mod Readings
 pub mod Refusing
 pub mod RoundTrip
+pub mod Rows
 pub mod Scans
+pub mod Sheets
 pub mod Spells
 pub mod Tokens
 pub mod Wrongs

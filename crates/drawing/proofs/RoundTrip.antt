@@ -1,9 +1,9 @@
 -- A name that is written is read back.
-use Rattle.std.proofs.Common.{◌≡◌, ℕ, suc, ◌+◌, ◌<◌, Bool, true, false, cond, not, ◌&&◌, ◌||◌, eqb, ltb, List, [], ◌∷◌, ◌++◌, length, take, drop, IfOk, Some, Ok, Err, Result, sym, refl, ap, ◌∙◌, subst, ⊎_elim, arith}
-use Rattle.std.proofs.lemmas.List.{take_at, drop_all, length_push, take_all}
+use Rattle.std.proofs.Common.{◌≡◌, ℕ, suc, ◌+◌, ◌<◌, Bool, true, false, cond, not, ◌&&◌, ◌||◌, eqb, ltb, List, [], ◌∷◌, ◌++◌, length, take, drop, IfOk, Some, Ok, Err, Result, sym, refl, ap, ◌∙◌, ⊎_elim, append_assoc, append-nil, arith}
+use Rattle.std.proofs.lemmas.List.{take_at, drop_at, length_push}
 use Rattle.std.specs.List.{prefix_len, position_or_len}
-use Rattle.std.proofs.lemmas.Bool.{cond-false, or_cases, or_parts, or_from, eqb-true, ne_eqb, and_parts, not-true, le-ltb, lt-ltb, both_ways}
-use Rattle.drawing.specs.Form.{blank, ends, stops, control, control_within, astray, also, closing, plain, word, next, dash, bare_word, bare, sized, quoted_word, quoted_at, next_dark, next_piece}
+use Rattle.std.proofs.lemmas.Bool.{cond-true, cond-false, or_left, or_cases, or_parts, or_from, eqb-true, ne_eqb, and_parts, not-true, le-ltb, lt-ltb, both_ways}
+use Rattle.drawing.specs.Form.{blank, ends, stops, control, control_within, astray, also, closing, plain, apart, word, next, dash, bare_word, bare, sized, quoted_word, quoted_at, next_dark, next_piece}
 use Rattle.drawing.specs.Spelling.{special, escaped, plainly, spelling, IsName, Means}
 use Rattle.drawing.proofs.Pieces.{pieces_next, pieces_none}
 
@@ -36,7 +36,7 @@ plain_escaped (b ∷ bs) = at (special b) refl (plain_escaped bs)
 low_special : (b : ℕ) → special b ≡ true → b < 160
 low_special b e = ⊎_elim (λ q. omega (arith, eqb-true b 34 q)) (λ q. omega (arith, eqb-true b 92 q)) (or_cases (eqb b 34) (eqb b 92) e)
 
-clear_escaped : (wide : Bool) (n : List ℕ) → control_within wide n ≡ false → control_within wide (escaped n) ≡ false
+pub clear_escaped : (wide : Bool) (n : List ℕ) → control_within wide n ≡ false → control_within wide (escaped n) ≡ false
 clear_escaped wide [] h = refl
 clear_escaped wide (b ∷ bs) h = let p = or_parts (control wide b) (control_within (eqb b 194) bs) h in at (special b) refl p.0 (clear_escaped (eqb b 194) bs p.1)
   where
@@ -48,15 +48,17 @@ clear_escaped wide (b ∷ bs) h = let p = or_parts (control wide b) (control_wit
     at true e k q = marked wide k (low_special b e) q
     at false e k q = or_from _ _ k q
 
-drop_past : (xs : List ℕ) → drop (length xs + 1) (xs ++ (34 ∷ [])) ≡ []
-drop_past xs = drop_all (length xs + 1) (xs ++ (34 ∷ [])) (rw (length_push xs 34) (omega arith))
+drop_past : (xs rest : List ℕ) → drop (length xs + 1) (xs ++ (34 ∷ rest)) ≡ rest
+drop_past xs rest = ap (drop (length xs + 1)) (sym (append_assoc xs (34 ∷ []) rest)) ∙ drop_at (xs ++ (34 ∷ [])) rest (length xs + 1) (omega (arith, length_push xs 34))
 
-quoted_back : (n : List ℕ) → IsName n → next_piece (34 ∷ (escaped n ++ (34 ∷ []))) ≡ next (word true n) []
-quoted_back n is =
-    ap (quoted_at (escaped n ++ (34 ∷ []))) (closing_escaped n [])
-    ∙ (λ i. quoted_word (take_at (escaped n) (34 ∷ []) (length (escaped n)) refl i) (drop_past (escaped n) i))
+-- a name is read back where what follows it may follow a word
+quoted_back : (n rest : List ℕ) → IsName n → apart rest ≡ true → next_piece (34 ∷ (escaped n ++ (34 ∷ rest))) ≡ next (word true n) rest
+quoted_back n rest is a =
+    ap (quoted_at (escaped n ++ (34 ∷ rest))) (closing_escaped n rest)
+    ∙ (λ i. quoted_word (take_at (escaped n) (34 ∷ rest) (length (escaped n)) refl i) (drop_past (escaped n) rest i))
+    ∙ cond-true _ _ _ a
     ∙ cond-false _ _ _ (clear_escaped false n is.clear)
-    ∙ ap (λ l. sized l []) (plain_escaped n)
+    ∙ ap (λ l. sized l rest) (plain_escaped n)
     ∙ cond-false _ _ _ (ne_eqb (length n) 0 (λ z. omega (arith, z, is.some)))
     ∙ cond-false _ _ _ (le-ltb 64 (length n) is.short)
 
@@ -69,42 +71,58 @@ free b e =
     let s = or_parts (eqb b 34) (eqb b 92) p.1 in
     (q.0, r.1, r.0, s.0)
 
-bare_back : (n : List ℕ) → IsName n → position_or_len stops n ≡ length n → dash n ≡ false → bare n ≡ next (word false n) []
-bare_back n is all named =
-    (λ i. bare_word (take (all i) n) (drop (all i) n))
-    ∙ (λ i. bare_word (take_all (length n) n (omega arith) i) (drop_all (length n) n (omega arith) i))
+first_free : (b : ℕ) (bs : List ℕ) → position_or_len stops (b ∷ bs) ≡ suc (length bs) → (stops b ≡ false) × (position_or_len stops bs ≡ length bs)
+first_free b bs e = at (stops b) e
+  where
+    at : (t : Bool) → cond (not t) (1 + position_or_len stops bs) 0 ≡ suc (length bs) → (t ≡ false) × (position_or_len stops bs ≡ length bs)
+    at true q = absurd (omega arith)
+    at false q = (refl, omega arith)
+
+-- what may follow a word ends it
+stops_apart : (rest : List ℕ) → apart rest ≡ true → position_or_len stops rest ≡ 0
+stops_apart [] a = refl
+stops_apart (b ∷ rest) a = cond-false _ _ _ (ap not (or_left (ends b) (eqb b 34 || eqb b 92) a))
+
+stops_behind : (n rest : List ℕ) → position_or_len stops n ≡ length n → apart rest ≡ true → position_or_len stops (n ++ rest) ≡ length n
+stops_behind [] rest all a = stops_apart rest a
+stops_behind (b ∷ bs) rest all a =
+    let f = first_free b bs all in
+    cond-true _ _ _ (ap not f.0) ∙ omega (arith, stops_behind bs rest f.1 a)
+
+bare_back : (n rest : List ℕ) → IsName n → position_or_len stops n ≡ length n → dash n ≡ false → apart rest ≡ true → bare (n ++ rest) ≡ next (word false n) rest
+bare_back n rest is all named a =
+    (λ i. bare_word (take (stops_behind n rest all a i) (n ++ rest)) (drop (stops_behind n rest all a i) (n ++ rest)))
+    ∙ (λ i. bare_word (take_at n rest (length n) refl i) (drop_at n rest (length n) refl i))
     ∙ cond-false _ _ _ (ne_eqb (length n) 0 (λ z. omega (arith, z, is.some)))
+    ∙ cond-true _ _ _ a
     ∙ cond-false _ _ _ is.clear
     ∙ cond-false _ _ _ named
     ∙ cond-false _ _ _ (le-ltb 64 (length n) is.short)
 
-first_free : (b : ℕ) (bs : List ℕ) → position_or_len stops (b ∷ bs) ≡ suc (length bs) → stops b ≡ false
-first_free b bs e = at (stops b) e
-  where
-    at : (t : Bool) → cond (not t) (1 + position_or_len stops bs) 0 ≡ suc (length bs) → t ≡ false
-    at true q = absurd (omega arith)
-    at false q = refl
-
-plain_back : (n : List ℕ) → IsName n → position_or_len stops n ≡ length n → dash n ≡ false → next_piece n ≡ next (word false n) []
-plain_back [] is all named = absurd (omega (arith, is.some))
-plain_back (b ∷ bs) is all named =
-    let f = free b (first_free b bs all) in
-    ap (λ m. next_dark (drop m (b ∷ bs))) (cond-false (blank b) (1 + prefix_len blank bs) 0 f.0)
+pub plain_back : (n rest : List ℕ) → IsName n → position_or_len stops n ≡ length n → dash n ≡ false → apart rest ≡ true → next_piece (n ++ rest) ≡ next (word false n) rest
+plain_back [] rest is all named a = absurd (omega (arith, is.some))
+plain_back (b ∷ bs) rest is all named a =
+    let f = free b (first_free b bs all).0 in
+    ap (λ m. next_dark (drop m (b ∷ (bs ++ rest)))) (cond-false (blank b) (1 + prefix_len blank (bs ++ rest)) 0 f.0)
     ∙ cond-false _ _ _ f.1 ∙ cond-false _ _ _ f.2 ∙ cond-false _ _ _ f.3
-    ∙ bare_back (b ∷ bs) is all named
+    ∙ bare_back (b ∷ bs) rest is all named a
 
-alone : (bs n : List ℕ) (q : Bool) → next_piece bs ≡ next (word q n) [] → Means n bs
-alone bs n q e = (q, pieces_next bs (word q n) [] e ∙ ap (λ ps. word q n ∷ ps) (pieces_none [] refl))
+-- whether a name is written in quotes
+abbrev pub quotes : List ℕ → Bool
+quotes n = not (plainly n)
 
-pub means : (n bs : List ℕ) → bs ≡ spelling n → IsName n → Means n bs
-means n bs e is = subst (Means n) (sym e) (at (plainly n) refl)
+pub name_back : (n rest : List ℕ) → IsName n → apart rest ≡ true → next_piece (spelling n ++ rest) ≡ next (word (quotes n) n) rest
+name_back n rest is a = at (plainly n) refl
   where
-    at : (t : Bool) → plainly n ≡ t → Means n (cond t n (34 ∷ (escaped n ++ (34 ∷ []))))
+    at : (t : Bool) → plainly n ≡ t → next_piece (cond t n (34 ∷ (escaped n ++ (34 ∷ []))) ++ rest) ≡ next (word (not t) n) rest
     at true q =
         let p = and_parts (not (eqb (length n) 0)) (eqb (position_or_len stops n) (length n) && not (dash n)) q in
         let r = and_parts (eqb (position_or_len stops n) (length n)) (not (dash n)) p.1 in
-        alone n n false (plain_back n is (eqb-true (position_or_len stops n) (length n) r.0) (not-true (dash n) r.1))
-    at false q = alone (34 ∷ (escaped n ++ (34 ∷ []))) n true (quoted_back n is)
+        plain_back n rest is (eqb-true (position_or_len stops n) (length n) r.0) (not-true (dash n) r.1) a
+    at false q = ap (λ l. next_piece (34 ∷ l)) (append_assoc (escaped n) (34 ∷ []) rest) ∙ quoted_back n rest is a
+
+pub means : (n bs : List ℕ) → bs ≡ spelling n → IsName n → Means n bs
+means n bs e is = (quotes n, pieces_next bs (word (quotes n) n) [] (ap next_piece (e ∙ sym (append-nil (spelling n))) ∙ name_back n [] is refl) ∙ ap (λ ps. word (quotes n) n ∷ ps) (pieces_none [] refl))
 
 pub made_means : {S E : Type 0} (f : S → List ℕ) (n : List ℕ) (r : Result S E) → IfOk r (λ s. f s ≡ spelling n) → IsName n → IfOk r (λ s. Means n (f s))
 made_means f n (Ok s) h is = means n (f s) h is

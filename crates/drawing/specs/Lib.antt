@@ -6,6 +6,6 @@ pub mod Lexed
 pub mod Passes
 pub mod Reading
 pub mod Rows
+pub mod Sheets
 pub mod Spelling
-pub mod Unread
 pub mod Wrong

@@ -8,21 +8,21 @@ ghost use Rattle.drawing.specs.Wrong.{Says};
 
 use std::alloc::Global;
 
-pub mod file;
 mod gather;
 mod line;
 mod names;
 pub mod refusal;
 mod row;
 mod scan;
+pub mod sheet;
 pub mod shown;
 mod spell;
 mod token;
 mod write;
 
-pub use file::{Unread, read_from, read_path};
 pub use names::MOST_PLACES;
 pub use refusal::{Fault, Refusal};
+pub use sheet::{Sheet, draw};
 pub use spell::{Name, Quoted, written};
 pub use token::MOST_NAME;
 pub use write::MOST_MOVES;

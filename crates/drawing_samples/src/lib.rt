@@ -4,7 +4,9 @@
 #[cfg(test)]
 mod tests {
     use drawing::shown::shown_line;
-    use drawing::{Fault, Name, Quoted, Refusal, Unread, read, read_from, written};
+    use drawing::{Fault, Name, Quoted, Refusal, draw, read, written};
+    use endless::graph::Places;
+    use endless::words::GameWords;
     use std::alloc::Global;
     use std::test::Fail;
 
@@ -61,52 +63,24 @@ mod tests {
     }
 
     #[test]
-    fn a_drawing_is_read_from_bytes(rt: HostRuntime) -> Result<(), Fail> {
+    fn a_game_is_drawn(rt: HostRuntime) -> Result<(), Fail> {
         let heap = rt.alloc();
-        let Ok(d) = read_from(heap, "a 0 1: b\nb 1 2: a".as_bytes()) else {
-            return Err(Fail::new("no drawing"));
+        let d = read(
+            heap,
+            "# up and down\n \"up\" 0 007:\"a b\" up # twice\n\n\"a b\" 1 0 : up",
+        )?;
+        let words = d.words.as_slice();
+        let Some(game) = GameWords::read(words) else {
+            return Err(Fail::new("no game"));
         };
-        assert_eq!(rt; d.words.as_slice(), [2, 0, 1, 1, 1, 1, 2, 1, 0].as_slice());
-        assert_eq!(rt; d.names[1].as_str(), "b");
-        Ok(())
-    }
-
-    // What is said of bytes that are no drawing.
-    fn unread(heap: Global, bytes: &[u8]) -> Result<String, Fail> {
-        match read_from(heap, bytes) {
-            Ok(_) => Err(Fail::new("read")),
-            Err(why) => Ok(why.to_string(heap)?),
-        }
-    }
-
-    #[test]
-    fn bytes_that_are_no_drawing_are_told(rt: HostRuntime) -> Result<(), Fail> {
-        let heap = rt.alloc();
-        assert_eq!(rt; unread(heap, b"a 0 1: a\xff")?.as_str(), "not UTF-8");
-        assert_eq!(rt;
-            unread(heap, b"# one\r\na 0 256: a\r\n")?.as_str(),
-            "line 2: the weight is not a number below 256\n  a 0 256: a"
-        );
-        assert_eq!(rt;
-            unread(heap, b"")?.as_str(),
-            "the drawing has no places; write a line NAME SIDE WEIGHT: NAME NAME .. for each"
-        );
-        let Err(why) = read_from(heap, b"a 0 1: b".as_slice()) else {
-            return Err(Fail::new("read"));
-        };
-        match why {
-            Unread::Refused { refusal, line } => {
-                let Some(line) = line else {
-                    return Err(Fail::new("no line"));
-                };
-                assert_eq!(rt; line.as_str(), "a 0 1: b");
-                match refusal {
-                    Refusal::Unknown { line: 1, name } => assert_eq!(rt; name.as_str(), "b"),
-                    _ => return Err(Fail::new("another refusal")),
-                }
-            }
-            _ => return Err(Fail::new("another answer")),
-        }
+        let mut starts = vec![in heap; [0, 0]; game.len() as usize]?;
+        let places = Places::new(game, starts.as_mut_slice());
+        let text = draw(heap, &places, d.names.as_slice())?;
+        assert_eq!(rt; text.as_str(), "up 0 7: \"a b\" up\n\"a b\" 1 0: up\n");
+        let back = read(heap, text.as_str())?;
+        assert_eq!(rt; back.words.as_slice(), words);
+        assert!(rt; back.names.len() == 2);
+        assert_eq!(rt; back.names[1].as_str(), "a b");
         Ok(())
     }
 

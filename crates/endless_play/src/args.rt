@@ -1,20 +1,24 @@
 //! What the command line asks for.
 use crate::fault::Fault;
 use endless::side::Side;
+use forms::Form;
 use std::alloc::{AllocError, Global};
 use std::env::Args;
 
-pub const HELP: &str = "usage: endless_play [--moves N] [--side 0|1] FILE [PLACE]
+pub const HELP: &str = "usage: endless_play [--moves N] [--side 0|1] [--format FORM] FILE [PLACE]
 
-Reads the drawing of a game from FILE, solves it, and plays it with you from
-PLACE, or from the first place of the drawing. The program plays the side that
-wins there, by the answer's plan; you make the other side's moves: at each of
-your places that has more than one move it lists them and reads a line from
-standard input, a name or a number of the list, or a command.
+Reads a game from FILE, solves it, and plays it with you from PLACE, or from
+the first place of the game. The program plays the side that wins there, by
+the answer's plan; you make the other side's moves: at each of your places
+that has more than one move it lists them and reads a line from standard
+input, a name or a number of the list, or a command.
 
   --moves N      where no choice of yours comes, go on by itself for N moves
                  and then end (1000 where nothing is said)
   --side 0|1     the program plays this side, also where it does not win
+  --format FORM  FILE is a drawing (drawing), or in PGSolver's form (pgsolver);
+                 where nothing is said its name tells: it is PGSolver's where
+                 it ends in .pg
   --help         this text
 
   :help          what can be typed
@@ -33,6 +37,8 @@ pub struct Job {
     pub place: Option<String>,
     /// How many moves it goes on by itself.
     pub moves: u64,
+    /// The form of the file, where it is not told by its name.
+    pub form: Option<Form>,
     /// The program's side, where it is not to be the winner's.
     pub side: Option<Side>,
 }
@@ -49,6 +55,7 @@ pub(crate) fn parse(args: Args) -> Result<Request, Fault> {
     let _ = args.next();
     let mut moves = 1000;
     let mut side = None;
+    let mut form = None;
     let mut file = None;
     let mut place = None;
     while let Some(arg) = args.next() {
@@ -56,6 +63,7 @@ pub(crate) fn parse(args: Args) -> Result<Request, Fault> {
             "--help" => return Ok(Request::Help),
             "--moves" => moves = number(args.next().ok_or(Fault::NoMoves)?)?,
             "--side" => side = Some(side_named(args.next().ok_or(Fault::NoSide)?)?),
+            "--format" => form = Some(form_named(args.next().ok_or(Fault::NoFormat)?)?),
             "--" => break,
             _ => add_name(&mut file, &mut place, not_option(arg)?)?,
         }
@@ -68,6 +76,7 @@ pub(crate) fn parse(args: Args) -> Result<Request, Fault> {
         file: file.ok_or(Fault::NoFile)?,
         place,
         moves,
+        form,
         side,
     }))
 }
@@ -97,6 +106,10 @@ fn not_option(arg: String) -> Result<String, Fault> {
 
 fn number(arg: String) -> Result<u64, Fault> {
     arg.as_str().parse().map_err(|_| Fault::Moves(arg))
+}
+
+fn form_named(arg: String) -> Result<Form, Fault> {
+    Form::try_from(arg).map_err(Fault::Format)
 }
 
 fn side_named(arg: String) -> Result<Side, Fault> {

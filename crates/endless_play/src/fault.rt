@@ -1,5 +1,5 @@
 //! Why the program ends without a play.
-use drawing::Unread;
+use forms::Unread;
 use std::alloc::{AllocError, AllocFailed};
 use std::{fmt, io};
 
@@ -19,11 +19,15 @@ pub enum Fault {
     NoFile,
     /// A file and a place are named already.
     ThirdName(String),
-    /// The file holds no drawing that can be read.
+    /// There is no such form of files.
+    Format(String),
+    /// `--format` is the last word.
+    NoFormat,
+    /// The file holds no game that can be read.
     Unread { file: String, why: Unread },
-    /// The words of the drawing are no game.
+    /// The words that were read are no game.
     NoGame { file: String },
-    /// The drawing has no place of that name.
+    /// The game has no place of that name.
     NoPlace { file: String, place: String },
     /// The person's lines cannot be read, or the play cannot be written.
     Talk(io::Error),
@@ -59,6 +63,11 @@ impl fmt::Display for Fault {
             ),
             Fault::NoSide => f.write_str("--side wants a side behind it: 0 or 1"),
             Fault::Side(word) => write!(f, "there is no side {word}; it is 0 or 1"),
+            Fault::Format(name) => write!(
+                f,
+                "there is no format {name}; it is drawing or pgsolver"
+            ),
+            Fault::NoFormat => f.write_str("--format wants a word behind it: drawing or pgsolver"),
             Fault::NoFile => f.write_str("no file is named; --help says what can be"),
             Fault::ThirdName(name) => write!(f, "{name}: one file and one place at a time"),
             Fault::Unread { file, why } => write!(f, "{file}: {why}"),

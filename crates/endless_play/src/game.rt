@@ -1,4 +1,4 @@
-//! A game to play, from its drawing to the end of the play.
+//! A game to play, from its file to the end of the play.
 ghost use Rattle.playing.specs.Boards.{Answered};
 
 use crate::args::Job;
@@ -6,17 +6,18 @@ use crate::fault::Fault;
 use crate::play::Play;
 use crate::table::Table;
 use crate::{input, show, wish};
+use forms::Source;
 use playing::Board;
 use playing::board::solve_in;
 use std::alloc::AllocError;
 use std::io;
 use std::io::BufReader;
 
-/// Reads the drawing, solves it, and plays it.
+/// Reads the game, solves it, and plays it.
 pub(crate) fn run(rt: &HostRuntime, job: Job) -> Result<(), Fault> {
     let heap = rt.alloc();
-    let drawing = input::drawing(rt, job.file.as_str())?;
-    let words = drawing.words.as_slice();
+    let Source { words, labels } = input::source(rt, job.file.as_str(), job.form)?;
+    let words = words.as_slice();
     let places = words.first().copied().unwrap_or(0) as usize;
     let Some(answer) = solve_in(heap, words)? else {
         return Err(Fault::NoGame { file: job.file });
@@ -26,7 +27,8 @@ pub(crate) fn run(rt: &HostRuntime, job: Job) -> Result<(), Fault> {
     let Some(board) = Board::new(words, answer, starts.as_mut_slice()) else {
         return Err(Fault::NoGame { file: job.file });
     };
-    start(rt, job, board, drawing.names.as_slice())
+    let names = labels.into_names(heap)?;
+    start(rt, job, board, names.as_slice())
 }
 
 /// Plays from the place that was asked for, or from the first.
@@ -38,6 +40,7 @@ fn start<'a>(rt: &HostRuntime, job: Job, board: Board<'a>, names: &'a [String]) 
         place,
         moves,
         side,
+        ..
     } = job;
     let first = match place {
         None => 0,

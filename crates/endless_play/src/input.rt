@@ -1,7 +1,7 @@
-//! What is read: a drawing from a file, and the person's lines.
+//! What is read: a game from a file, and the person's lines.
 use crate::fault::Fault;
 use crate::wish::NoWish;
-use drawing::{Drawing, Unread, read_path};
+use forms::{Form, Source, Unread, read_path};
 use std::alloc::{AllocError, Global};
 use std::io;
 use std::io::{BufRead, Read};
@@ -9,11 +9,12 @@ use std::io::{BufRead, Read};
 /// The most bytes of a line that the person types.
 const MOST_LINE: usize = 256;
 
-/// The drawing that stands in `file`.
-pub(crate) fn drawing(rt: &HostRuntime, file: &str) -> Result<Drawing, Fault> {
+/// The game that stands in `file`: in the form that is asked for, or else in
+/// the one that the file's name tells.
+pub(crate) fn source(rt: &HostRuntime, file: &str, form: Option<Form>) -> Result<Source, Fault> {
     let heap = rt.alloc();
-    match read_path(rt, file) {
-        Ok(drawing) => Ok(drawing),
+    match read_path(rt, file, form.unwrap_or(Form::of_path(file))) {
+        Ok(source) => Ok(source),
         Err(Unread::Memory) => Err(Fault::Memory),
         Err(why) => Err(Fault::Unread {
             file: String::from_str(heap, file)?,

@@ -1,33 +1,62 @@
 //! What the command line asks for.
 use crate::fault::Fault;
+use forms::Form;
 use std::alloc::{AllocError, AllocFailed, Global};
 use std::env::Args;
 
-pub const HELP: &str = "usage: endless_solve [--output FORM] [FILE ..]
+pub const HELP: &str = "usage: endless_solve [--format FORM] [--output FORM] [--summary] [FILE ..]
 
-Reads the drawing of a game from FILE, or from standard input where FILE is
-missing or -, and tells for each place which side wins it, and by which move.
-Of more than one FILE each is told behind a line # FILE, up to the first that
-is refused.
+Reads a game from FILE, or from standard input where FILE is missing or -, and
+tells for each place which side wins it, and by which move. Of more than one
+FILE each is told behind a line # FILE, up to the first that is refused.
+
+  --format drawing   each FILE is a drawing
+  --format pgsolver  each FILE is a game in PGSolver's form; where nothing is
+                     said it is one if its name ends in .pg, else a drawing
 
   --output places    a line for each place: NAME SIDE MOVE, the side that wins
                      it and its move there, or - where the other side moves
                      (this is the default)
   --output answer    the answer as words: for each place a side and a place
+  --output solution  the answer in PGSolver's form: ID WINNER MOVE;
+  --output dot       the game and its answer as a picture for Graphviz
   --output words     the game as words: how many places; then a line for each
                      place: whose it is, its weight, how many moves, the moves
+  --output drawing   the game as a drawing
+  --output pg        the game in PGSolver's form
   --output summary   that it is a game, and how many places each side has
+
+  --summary          besides, on standard error: how many places, moves and
+                     different weights there are, how many places each side
+                     wins, and how long that took
   --help             this text
 
-A drawing has a line for each place: NAME SIDE WEIGHT: NAME NAME ..";
+A drawing has a line for each place: NAME SIDE WEIGHT: NAME NAME ..
+PGSolver's form has, behind parity N; for each: ID PRIORITY OWNER ID,ID,.. \"NAME\";";
 
-/// What is to be printed of a game.
+/// A form in which a game is printed.
+#[derive(Clone, Copy)]
+pub enum Game {
+    Words,
+    Drawing,
+    Pg,
+    Summary,
+}
+
+/// A form in which an answer is printed.
+#[derive(Clone, Copy)]
+pub enum Answer {
+    Places,
+    Words,
+    Solution,
+    Dot,
+}
+
+/// What is to be printed.
 #[derive(Clone, Copy)]
 pub enum Output {
-    Places,
-    Answer,
-    Words,
-    Summary,
+    Game(Game),
+    Answer(Answer),
 }
 
 /// A form of output by its name; a name that is none comes back.
@@ -36,20 +65,28 @@ impl TryFrom<String> for Output {
 
     fn try_from(name: String) -> Result<Output, String> {
         match name.as_str() {
-            "places" => Ok(Output::Places),
-            "answer" => Ok(Output::Answer),
-            "words" => Ok(Output::Words),
-            "summary" => Ok(Output::Summary),
+            "places" => Ok(Output::Answer(Answer::Places)),
+            "answer" => Ok(Output::Answer(Answer::Words)),
+            "solution" => Ok(Output::Answer(Answer::Solution)),
+            "dot" => Ok(Output::Answer(Answer::Dot)),
+            "words" => Ok(Output::Game(Game::Words)),
+            "drawing" => Ok(Output::Game(Game::Drawing)),
+            "pg" => Ok(Output::Game(Game::Pg)),
+            "summary" => Ok(Output::Game(Game::Summary)),
             _ => Err(name),
         }
     }
 }
 
-/// Drawings to read, `-` for standard input, and what to print of each.
+/// Games to read, `-` for standard input, and what to print of each.
 #[derive(Drop)]
 pub struct Job {
     pub files: Vec<String>,
+    /// The form of all files, where it is not told by their names.
+    pub form: Option<Form>,
     pub output: Output,
+    /// Whether to tell besides how large each is, and who wins how much.
+    pub summary: bool,
 }
 
 #[derive(Drop)]
@@ -60,23 +97,32 @@ pub enum Request {
 
 /// The arguments, behind the program's own name.
 pub(crate) fn parse(heap: Global, args: Args) -> Result<Request, Fault> {
-    let mut output = Output::Places;
-    let mut files = Vec::new(heap);
+    let mut job = Job {
+        files: Vec::new(heap),
+        form: None,
+        output: Output::Answer(Answer::Places),
+        summary: false,
+    };
     let mut args = args.skip(1);
     while let Some(arg) = args.next() {
         match arg.as_str() {
             "--help" => return Ok(Request::Help),
+            "--summary" => job.summary = true,
             "--output" => {
                 let name = args.next().ok_or(Fault::NoOutput)?;
-                output = Output::try_from(name).map_err(Fault::Output)?;
+                job.output = Output::try_from(name).map_err(Fault::Output)?;
             }
-            _ => files.push(file_named(arg)?)?,
+            "--format" => {
+                let name = args.next().ok_or(Fault::NoFormat)?;
+                job.form = Some(Form::try_from(name).map_err(Fault::Format)?);
+            }
+            _ => job.files.push(file_named(arg)?)?,
         }
     }
-    if files.is_empty() {
-        files.push(String::from_str(heap, "-")?)?;
+    if job.files.is_empty() {
+        job.files.push(String::from_str(heap, "-")?)?;
     }
-    Ok(Request::Read(Job { files, output }))
+    Ok(Request::Read(job))
 }
 
 /// A file to read: an option that there is not is no file.

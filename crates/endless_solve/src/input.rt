@@ -1,13 +1,14 @@
-//! Drawings from files and from standard input.
+//! Games from files and from standard input.
 use crate::fault::Fault;
-use drawing::{Drawing, Unread, read_from, read_path};
+use forms::{Form, Source, Unread, read_from, read_path};
 use std::alloc::AllocError;
 
-/// The drawing that stands in `file`, or on standard input where that is `-`.
-pub(crate) fn drawing(rt: &HostRuntime, file: &str) -> Result<Drawing, Fault> {
+/// The game that stands in `file`, or on standard input where that is `-`: in
+/// the form that is asked for, or else in the one that the file's name tells.
+pub(crate) fn source(rt: &HostRuntime, file: &str, form: Option<Form>) -> Result<Source, Fault> {
     let heap = rt.alloc();
-    match read(rt, file) {
-        Ok(drawing) => Ok(drawing),
+    match read(rt, file, form.unwrap_or(Form::of_path(file))) {
+        Ok(source) => Ok(source),
         Err(Unread::Memory) => Err(Fault::Memory),
         Err(why) => Err(Fault::Unread {
             file: String::from_str(heap, shown(file))?,
@@ -21,10 +22,10 @@ pub(crate) fn shown(file: &str) -> &str {
     if file == "-" { "standard input" } else { file }
 }
 
-fn read(rt: &HostRuntime, file: &str) -> Result<Drawing, Unread> {
+fn read(rt: &HostRuntime, file: &str, form: Form) -> Result<Source, Unread> {
     if file == "-" {
-        read_from(rt.alloc(), rt.stdin())
+        read_from(rt.alloc(), rt.stdin(), form)
     } else {
-        read_path(rt, file)
+        read_path(rt, file, form)
     }
 }

@@ -1,64 +1,23 @@
 //! What is printed of a game and its answer.
-ghost use Rattle.std.specs.Prelude.{length};
-ghost use Rattle.std.specs.Iterator.{at_most};
+ghost use Rattle.std.specs.Prelude.{◌<◌, length};
 
 use drawing::Name;
-use endless::answer::{PlaceId, Winner, goes_to, won_by};
-use endless::place::Head;
+use endless::answer::{PlaceId, goes_to, won_by};
+use endless::graph::Places;
 use endless::side::Side;
 use std::io;
 use std::io::Write;
-
-/// A place as the words have it: its head, and all of its words.
-#[derive(Clone, Copy)]
-struct Place<'a> {
-    head: Head,
-    words: &'a [u32],
-}
-
-/// The places of a game, one after the other.
-#[derive(Drop)]
-struct EachPlace<'a> {
-    rest: &'a [u32],
-}
-
-impl<'a> Iterator for EachPlace<'a> {
-    type Item = Place<'a>;
-
-    ghost remaining = { λ s. at_most (length s.rest.now) };
-
-    fn next(&mut self) -> Option<Place<'a>> {
-        let head = Head::read(self.rest)?;
-        let (words, rest) = self.rest.split_at_checked(head.moves as usize + 3)?;
-        self.rest = rest;
-        Some(Place { head, words })
-    }
-}
-
-/// The first word, which says how many places there are, and the places.
-fn split(words: &[u32]) -> (&[u32], EachPlace<'_>) {
-    let (first, rest) = words.split_at(words.len().min(1));
-    (first, EachPlace { rest })
-}
 
 /// A line for each place: its name, the side that wins it, and the name of its
 /// move, or `-` where the winner is not the one to move.
 pub(crate) fn places<W: Write>(
     out: &mut W,
     names: &[String],
-    words: &[u32],
+    places: &Places,
     answer: &[u32],
 ) -> io::Result<()> {
-    let (_, places) = split(words);
-    for ((name, place), at) in names.iter().zip(places).zip(0..) {
-        place_line(
-            out,
-            names,
-            Name(name.as_str()),
-            place.head,
-            PlaceId(at),
-            answer,
-        )?;
+    for place in 0..places.len() {
+        place_line(out, names, places, place, answer)?;
     }
     Ok(())
 }
@@ -66,25 +25,29 @@ pub(crate) fn places<W: Write>(
 fn place_line<W: Write>(
     out: &mut W,
     names: &[String],
-    name: Name<'_>,
-    head: Head,
-    at: PlaceId,
+    places: &Places,
+    place: u32,
     answer: &[u32],
-) -> io::Result<()> {
-    let (Some(Winner(side)), Some(PlaceId(to))) = (won_by(answer, at), goes_to(answer, at)) else {
+) -> io::Result<()>
+    requires { place < length places.now }
+{
+    let at = PlaceId(place);
+    let (Some(winner), Some(to)) = (won_by(answer, at), goes_to(answer, at)) else {
         return Ok(());
     };
-    write!(out, "{name} {side} ")?;
-    if head.whose != side {
-        return out.write_all(b"-\n");
+    let name = name(names, at);
+    let side = winner.0;
+    if places.is_own(side, place) {
+        let to = self::name(names, to);
+        writeln!(out, "{name} {side} {to}")
+    } else {
+        writeln!(out, "{name} {side} -")
     }
-    match names.get(to as usize) {
-        Some(target) => {
-            let target = Name(target.as_str());
-            writeln!(out, "{target}")
-        }
-        None => out.write_all(b"?\n"),
-    }
+}
+
+/// The name of a place, as a drawing writes it.
+fn name(names: &[String], place: PlaceId) -> Name<'_> {
+    Name(names.get(place.0 as usize).map_or("?", |name| name.as_str()))
 }
 
 /// The answer's words: a line for each place.
@@ -104,8 +67,8 @@ struct Size {
 }
 
 /// That the words are a game, and how many places each side has.
-pub(crate) fn summary<W: Write>(out: &mut W, name: &str, words: &[u32]) -> io::Result<()> {
-    let Size { moves, even, odd } = measure(words);
+pub(crate) fn summary<W: Write>(out: &mut W, name: &str, places: &Places) -> io::Result<()> {
+    let Size { moves, even, odd } = measure(places);
     let places = even.saturating_add(odd);
     let (s, t, u) = (plural(places), plural(moves), plural(even));
     writeln!(out, "{name} is a game: {places} place{s}, {moves} move{t}")?;
@@ -113,32 +76,38 @@ pub(crate) fn summary<W: Write>(out: &mut W, name: &str, words: &[u32]) -> io::R
 }
 
 /// What a word of one ends in where there are so many.
-fn plural(n: usize) -> &'static str {
+pub(crate) fn plural(n: usize) -> &'static str {
     if n == 1 { "" } else { "s" }
 }
 
-/// The words: the first on a line of its own, then a line for each place.
-pub(crate) fn words<W: Write>(out: &mut W, words: &[u32]) -> io::Result<()> {
-    let (first, places) = split(words);
-    line(out, first)?;
-    for place in places {
-        line(out, place.words)?;
-    }
-    Ok(())
-}
-
 /// How many moves there are, and how many places of each side.
-fn measure(words: &[u32]) -> Size {
+fn measure(places: &Places) -> Size {
     let mut size = Size::default();
-    let (_, places) = split(words);
-    for place in places {
-        size.moves = size.moves.saturating_add(place.head.moves as usize);
-        match place.head.whose {
+    for place in 0..places.len() {
+        let head = places.head(place);
+        size.moves = size.moves.saturating_add(head.moves as usize);
+        match head.whose {
             Side::Even => size.even = size.even.saturating_add(1),
             Side::Odd => size.odd = size.odd.saturating_add(1),
         }
     }
     size
+}
+
+/// The words: the first on a line of its own, then a line for each place.
+pub(crate) fn words<W: Write>(out: &mut W, places: &Places) -> io::Result<()> {
+    let many = places.len();
+    writeln!(out, "{many}")?;
+    for place in 0..many {
+        let head = places.head(place);
+        let (whose, weight, moves) = (head.whose, head.weight, head.moves);
+        write!(out, "{whose} {weight} {moves}")?;
+        for to in places.moves(place) {
+            write!(out, " {to}")?;
+        }
+        writeln!(out)?;
+    }
+    Ok(())
 }
 
 /// Words on a line, with a blank between them.

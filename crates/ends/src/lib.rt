@@ -41,6 +41,8 @@ fn told(words: &[u32]) -> usize
         .map_or(0, |places| (*places).min(MOST_PLACES) as usize)
 }
 
+// Beside `is_enough` of `endless`, which asks for 4 for each word alone: a constant
+// and a summand more would be longer than the two.
 /// Whether 65,536 words are lent, and 5 for each word and each place.
 fn is_enough(words: usize, places: usize, lent: usize) -> bool
     ensures { result ≡ nat_le (65536 + 5 * (words + places)) lent }

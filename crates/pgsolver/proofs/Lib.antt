@@ -1,10 +1,15 @@
 pub mod Assembling
+pub mod Calling
 pub mod Compressing
 pub mod Fines
 pub mod Gathers
 pub mod Goals
 pub mod Lengths
 pub mod Looking
+pub mod Numerals
+pub mod Rereading
 pub mod SameWins
 pub mod Scans
+pub mod Solutions
 pub mod Writes
+pub mod Writing

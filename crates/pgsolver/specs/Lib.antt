@@ -1,7 +1,11 @@
 -- PGSolver's text form of a game: what it says.
+pub mod Called
 pub mod Form
+pub mod Ids
 pub mod Listed
 pub mod Read
+pub mod Solutions
 pub mod Table
 pub mod Weights
+pub mod Written
 pub mod Wrongs

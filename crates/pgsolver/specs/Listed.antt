@@ -7,6 +7,7 @@ use Rattle.pgsolver.specs.declared.refusal.Refusal.{Refusal}
 use Rattle.pgsolver.specs.declared.refusal.Refusal.TheVariants.{Fault, Twice, Unknown, TooManyPriorities, TooLong, NoNodes, Memory}
 use Rattle.pgsolver.specs.declared.wrong.Wrong.{Wrong}
 use Rattle.pgsolver.specs.declared.Listing.{Listing}
+use Rattle.pgsolver.specs.declared.Named.{Named}
 use Rattle.pgsolver.specs.declared.wrong.Wrong.TheVariants as wrong
 use Rattle.pgsolver.specs.Form.{Entry, ids_in, priorities_in, entries}
 use Rattle.pgsolver.specs.Table.{Apart}
@@ -64,6 +65,11 @@ pub record Listed (text : List ℕ) (ids : List ℕ) (names : List (List ℕ)) (
   pub keeps : Keeps (weights_of whole) (weights_of game)
   pub plain : Below 256 (weights_of whole) → weights_of game ≡ weights_of whole
   pub wins : (w : ℕ) (plan : ℕ → ℕ) (won : ℕ → Bool) → WinsFrom whole w plan (λ n. T (won n)) ↔ WinsFrom game w plan (λ n. T (won n))
+
+-- places with the ids and the names of the nodes
+pub record NamedAs (es : List Entry) (places : List Named) : Type 0 where
+  pub ids : map (λ p. p.id) places ≡ ids_in es
+  pub names : map (λ p. vec_items p.name) places ≡ map (λ e. e.named) es
 
 abbrev pub listed_ids : Listing → List ℕ
 listed_ids l = map (λ p. p.id) (vec_items l.places)

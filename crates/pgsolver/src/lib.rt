@@ -3,7 +3,7 @@
 
 ghost use Rattle.std.specs.Prelude.{◌≡◌, ◌≤◌, length, IfOk, IfErr, Ok};
 ghost use Rattle.pgsolver.specs.Form.{priorities_in, entries};
-ghost use Rattle.pgsolver.specs.Listed.{line_at, Assembled, Unassembled, Inside, Listed, listed_ids, listed_names, Says};
+ghost use Rattle.pgsolver.specs.Listed.{line_at, NamedAs, Assembled, Unassembled, Inside, Listed, listed_ids, listed_names, Says};
 ghost use Rattle.pgsolver.specs.Read.{Stops};
 ghost use Rattle.pgsolver.specs.Weights.{Fitted, Unfit};
 ghost use Rattle.pgsolver.specs.Wrongs.{FineAll};
@@ -13,22 +13,29 @@ use crate::refusal::{Slip, Stop};
 use crate::text::Node;
 use crate::weights::NoWeights;
 use crate::wrong::Wrong;
-use std::alloc::Global;
+use std::alloc::{AllocError, Global};
 
+mod highest;
 mod ids;
 mod line;
+mod names;
 mod node;
 pub mod refusal;
 mod scan;
+mod solution;
 mod text;
 pub mod weights;
 mod words;
+mod write;
 mod wrong;
 
+pub use names::called;
 pub use node::MOST_MOVES;
 pub use refusal::{Fault, Refusal};
+pub use solution::Solution;
 pub use text::MOST_NODES;
 pub use weights::compress;
+pub use write::GameText;
 
 /// The most bytes of a text.
 pub const MOST_BYTES: usize = 1_048_576;
@@ -67,6 +74,21 @@ fn assemble(heap: Global, nodes: &[Node]) -> Result<Vec<u32>, Wrong>
     let places = Places::of(heap, nodes)?;
     let weights = weigh(heap, nodes)?;
     words::write_words(heap, &places, nodes, &weights)
+}
+
+/// What the nodes call their places, each with a name of its own. The nodes go
+/// on the way, so that their successors and the names do not stand together.
+fn name_places(heap: Global, nodes: Vec<Node<'_>>) -> Result<Vec<Named>, AllocError>
+    ensures { IfOk result (λ v. NamedAs nodes.entry.items v.items) }
+{
+    let mut places = Vec::new(heap);
+    for node in nodes {
+        places.push(Named {
+            id: node.head.id,
+            name: Vec::from_slice(heap, node.name)?,
+        })?;
+    }
+    Ok(places)
 }
 
 /// The line in which the node begins.
@@ -116,6 +138,7 @@ fn stopped(text: &[u8], stop: Stop) -> Refusal
 /// Reads PGSolver's form: ID PRIORITY OWNER SUCC,SUCC,.. "NAME"; for each node, behind `parity N;` and `start N;`, which may be missing.
 pub fn read(heap: Global, text: &[u8]) -> Result<Listing, Refusal>
     ensures listed { IfOk result (λ l. Listed text.now (listed_ids l) (listed_names l) l.words.items) }
+    ensures short { IfOk result (λ l. length text.now ≤ 1048576) }
     ensures says { IfErr result (λ e. Says text.now e) }
 {
     if text.len() > MOST_BYTES {
@@ -125,13 +148,12 @@ pub fn read(heap: Global, text: &[u8]) -> Result<Listing, Refusal>
     if nodes.is_empty() {
         return Err(Refusal::NoNodes);
     }
-    let words = assemble(heap, &nodes).map_err(|wrong| refused(text, &nodes, wrong))?;
-    let places = nodes
-        .into_iter()
-        .map(|node| Named {
-            id: node.head.id,
-            name: node.name,
-        })
-        .collect(heap)?;
+    // No `map_err`: tried, and what its closure tells of the nodes that it borrows
+    // was not shown.
+    let words = match assemble(heap, &nodes) {
+        Ok(words) => words,
+        Err(wrong) => return Err(refused(text, &nodes, wrong)),
+    };
+    let places = name_places(heap, nodes)?;
     Ok(Listing { words, places })
 }

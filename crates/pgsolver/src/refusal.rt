@@ -5,6 +5,7 @@ ghost use Rattle.pgsolver.specs.declared.refusal.Refusal.TheVariants as refusal;
 ghost use Rattle.pgsolver.specs.Form.{slip};
 
 use std::alloc::{AllocError, AllocFailed};
+use std::error::Error;
 use std::fmt;
 
 /// What is not of the form.
@@ -35,6 +36,19 @@ pub enum Refusal {
     TooLong,
     NoNodes,
     Memory,
+}
+
+impl Refusal {
+    /// The line that it is about, if it is about one.
+    pub fn line(&self) -> Option<usize> {
+        match self {
+            Refusal::Fault { line, .. }
+            | Refusal::Twice { line, .. }
+            | Refusal::Unknown { line, .. }
+            | Refusal::TooManyPriorities { line } => Some(*line),
+            Refusal::TooLong | Refusal::NoNodes | Refusal::Memory => None,
+        }
+    }
 }
 
 /// A fault, and how many bytes of the text are left from there.
@@ -94,6 +108,10 @@ impl<T: Drop> From<AllocFailed<T>> for Stop {
         Stop::Memory
     }
 }
+
+impl Error for Fault {}
+
+impl Error for Refusal {}
 
 impl fmt::Display for Fault {
     fn fmt<W: fmt::Write>(&self, f: &mut fmt::Formatter<W>) -> fmt::Result {

@@ -15,30 +15,29 @@ pub const MOST_NODES: usize = 16_384;
 
 /// A node: what stands first in it, how many bytes of the text are left where it begins, the ids of its successors, and its name. A contract sees what it says.
 #[derive(Drop)]
-pub(crate) struct Node {
+pub(crate) struct Node<'a> {
     pub(crate) head: Head,
     pub(crate) left: usize,
     pub(crate) goals: Vec<u32>,
-    pub(crate) name: Vec<u8>,
+    pub(crate) name: &'a [u8],
 }
 
-impl Model for Node {
+impl<'a> Model for Node<'a> {
     ghost use Rattle.pgsolver.specs.Form.{Entry};
 
     ghost Value = { Entry };
 
-    ghost view = { λ n. record { first = n.head; left = n.left; goes = n.goals.items; named = n.name.items } };
+    ghost view = { λ n. record { first = n.head; left = n.left; goes = n.goals.items; named = n.name.now } };
 }
 
 /// Reads a node; so many successors are used by the nodes before.
-fn read_node(heap: Global, text: &[u8], used: usize) -> Result<(Node, &[u8]), Stop>
+fn read_node(heap: Global, text: &[u8], used: usize) -> Result<(Node<'_>, &[u8]), Stop>
     requires { used ≤ 64000 }
     ensures { ReadOrStops (λ n. n) (node used text.now) result }
 {
     let (head, rest) = node::read_head(text)?;
     let (goals, rest) = node::goals(heap, rest, used)?;
     let (name, rest) = node::tail(rest)?;
-    let name = Vec::from_slice(heap, name)?;
     let left = text.len();
     Ok((
         Node {
@@ -51,7 +50,7 @@ fn read_node(heap: Global, text: &[u8], used: usize) -> Result<(Node, &[u8]), St
     ))
 }
 
-fn read_nodes(heap: Global, text: &[u8]) -> Result<Vec<Node>, Stop>
+fn read_nodes(heap: Global, text: &[u8]) -> Result<Vec<Node<'_>>, Stop>
     ensures { ReadAll (nodes text.now) result }
 {
     let mut nodes = Vec::new(heap);
@@ -84,7 +83,7 @@ fn header<'a>(word: &[u8], text: &'a [u8]) -> Result<&'a [u8], Slip>
 }
 
 /// The nodes of the text, behind its header.
-pub(crate) fn read_text(heap: Global, text: &[u8]) -> Result<Vec<Node>, Stop>
+pub(crate) fn read_text(heap: Global, text: &[u8]) -> Result<Vec<Node<'_>>, Stop>
     ensures { ReadAll (entries text.now) result }
 {
     let rest = header(b"parity", text)?;

@@ -1,5 +1,5 @@
 //! Why the program ends before the play does.
-use drawing::{Refusal, Unread};
+use forms::{Refused, Unread};
 use std::alloc::AllocError;
 use std::{fmt, io};
 
@@ -8,9 +8,9 @@ pub enum Fault {
     Usage,
     /// The file is not UTF-8.
     NotText,
-    /// The file is no drawing of a game.
-    Refused(Refusal),
-    /// The words of the drawing are no game.
+    /// The file is no game in its form.
+    Refused(Refused),
+    /// The words that were read are no game.
     NoGame,
     /// A move from the first place to the second is not as it should be.
     Wrong { from: u32, to: u32 },
@@ -30,7 +30,7 @@ impl From<Unread> for Fault {
         match why {
             Unread::Io(error) => Fault::Files(error),
             Unread::NotText => Fault::NotText,
-            Unread::Refused { refusal, .. } => Fault::Refused(refusal),
+            Unread::Refused { why, .. } => Fault::Refused(why),
             Unread::Memory => Fault::Memory,
         }
     }
@@ -48,7 +48,7 @@ impl fmt::Display for Fault {
             Fault::Usage => f.write_str("usage: random_play FILE MOVES"),
             Fault::NotText => f.write_str("the file is not UTF-8"),
             Fault::Refused(refusal) => write!(f, "{refusal}"),
-            Fault::NoGame => f.write_str("the drawing is no game"),
+            Fault::NoGame => f.write_str("no game"),
             Fault::Wrong { from, to } => write!(
                 f,
                 "the move from place {from} to place {to} is not the plan's, or leaves the winner's places"

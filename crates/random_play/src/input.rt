@@ -1,8 +1,8 @@
-//! The drawing from its file.
+//! The game from its file.
 use crate::fault::Fault;
-use drawing::{Drawing, read_path};
+use forms::{Form, Source, read_path};
 
-/// The drawing that stands in `file`.
-pub(crate) fn drawing(rt: &HostRuntime, file: &str) -> Result<Drawing, Fault> {
-    Ok(read_path(rt, file)?)
+/// The game that stands in `file`, in the form that its name tells.
+pub(crate) fn source(rt: &HostRuntime, file: &str) -> Result<Source, Fault> {
+    Ok(read_path(rt, file, Form::of_path(file))?)
 }

@@ -24,7 +24,7 @@ fn main(rt: HostRuntime) -> ExitCode {
     }
 }
 
-/// Two arguments: the file of a drawing, and how many moves are made.
+/// Two arguments: the file of a game, and how many moves are made.
 fn run(rt: &HostRuntime) -> Result<(), Fault> {
     let mut args = env::args(rt)?.skip(1);
     let (Some(file), Some(count)) = (args.next(), args.next()) else {

@@ -88,12 +88,12 @@ impl<'a> Model for Play<'a> {
     ghost invariant = { λ p. Answered p.board.game p.board.answer × (p.place < length p.board.game) };
 }
 
-/// Reads the drawing, solves it, and plays it from its first place.
+/// Reads the game, solves it, and plays it from its first place.
 pub(crate) fn run(rt: &HostRuntime, file: &str, count: u64) -> Result<(), Fault> {
     let heap = rt.alloc();
-    let drawing = input::drawing(rt, file)?;
-    let words = drawing.words.as_slice();
-    let places = drawing.names.len();
+    let source = input::source(rt, file)?;
+    let words = source.words.as_slice();
+    let places = words.first().copied().unwrap_or(0) as usize;
     let Some(answer) = solve_in(heap, words)? else {
         return Err(Fault::NoGame);
     };

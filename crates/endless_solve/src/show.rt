@@ -1,0 +1,133 @@
+//! What is asked for of each file.
+use crate::args::{Answer, Game, Job, Output};
+use crate::fault::Fault;
+use crate::{input, report, solution, summary};
+use dot::Picture;
+use drawing::Sheet;
+use endless::graph::Places;
+use endless::words::GameWords;
+use forms::{Labels, Source};
+use pgsolver::{GameText, Solution};
+use std::alloc::AllocError;
+use std::io::{BufWriter, Write};
+
+/// What is asked for of each file, behind a line with its name where there
+/// are several.
+pub(crate) fn show_all(rt: &HostRuntime, job: &Job) -> Result<(), Fault> {
+    for file in job.files.iter() {
+        show(rt, file.as_str(), job)?;
+    }
+    Ok(())
+}
+
+fn show(rt: &HostRuntime, file: &str, job: &Job) -> Result<(), Fault> {
+    let Source { words, labels } = input::source(rt, file, job.form)?;
+    if job.files.len() > 1 {
+        println!(rt; "# {file}")?;
+    }
+    let heap = rt.alloc();
+    let name = input::shown(file);
+    let words = words.as_slice();
+    match job.output {
+        Output::Game(form) => {
+            let game = GameWords::read(words).ok_or(Fault::Unsolved)?;
+            let mut starts = vec![in heap; [0, 0]; game.len() as usize]?;
+            let places = Places::new(game, starts.as_mut_slice());
+            show_game(rt, name, form, &places, labels)?;
+            if job.summary {
+                summary::tell(rt, name, words, &solution::solve(rt, words)?)?;
+            }
+        }
+        Output::Answer(form) => {
+            let solved = solution::solve(rt, words)?;
+            let game = GameWords::read(words).ok_or(Fault::Unsolved)?;
+            let mut starts = vec![in heap; [0, 0]; game.len() as usize]?;
+            let places = Places::new(game, starts.as_mut_slice());
+            show_answer(rt, form, &places, labels, solved.answer.as_slice())?;
+            if job.summary {
+                summary::tell(rt, name, words, &solved)?;
+            }
+        }
+    }
+    Ok(())
+}
+
+/// The game, in a form of output.
+fn show_game<'a>(
+    rt: &HostRuntime,
+    name: &str,
+    form: Game,
+    places: &'a Places<'a>,
+    labels: Labels,
+) -> Result<(), Fault> {
+    let heap = rt.alloc();
+    let mut out = BufWriter::new(heap, rt.stdout())?;
+    match form {
+        Game::Words => report::words(&mut out, places)?,
+        Game::Summary => report::summary(&mut out, name, places)?,
+        Game::Drawing => {
+            let names = labels.into_names(heap)?;
+            let sheet = Sheet {
+                places,
+                names: names.as_slice(),
+            };
+            write!(out, "{sheet}")?;
+        }
+        Game::Pg => {
+            let nodes = labels.into_nodes(heap)?;
+            if nodes.len() != places.len() as usize {
+                return Err(Fault::Unsolved);
+            }
+            let text = GameText {
+                game: places,
+                named: nodes.as_slice(),
+            };
+            write!(out, "{text}")?;
+        }
+    }
+    out.flush()?;
+    Ok(())
+}
+
+/// The answer to a game, in a form of output.
+fn show_answer<'a>(
+    rt: &HostRuntime,
+    form: Answer,
+    places: &'a Places<'a>,
+    labels: Labels,
+    answer: &'a [u32],
+) -> Result<(), Fault> {
+    let heap = rt.alloc();
+    let mut out = BufWriter::new(heap, rt.stdout())?;
+    match form {
+        Answer::Words => report::answer(&mut out, answer)?,
+        Answer::Places => {
+            let names = labels.into_names(heap)?;
+            report::places(&mut out, names.as_slice(), places, answer)?;
+        }
+        Answer::Dot => {
+            let names = labels.into_names(heap)?;
+            let picture = Picture {
+                places,
+                names: names.as_slice(),
+                answer,
+            };
+            write!(out, "{picture}")?;
+        }
+        Answer::Solution => {
+            let nodes = labels.into_nodes(heap)?;
+            let many = places.len() as usize;
+            if nodes.len() != many || answer.len() < 2 * many {
+                return Err(Fault::Unsolved);
+            }
+            let solution = Solution {
+                game: places,
+                named: nodes.as_slice(),
+                answer,
+            };
+            write!(out, "{solution}")?;
+        }
+    }
+    out.flush()?;
+    Ok(())
+}

@@ -1,0 +1,3 @@
+-- A game that is read from a file: what its text says.
+pub mod Forms
+pub mod Shown
