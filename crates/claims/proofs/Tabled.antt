@@ -1,5 +1,5 @@
 -- What is told is noted one by one, and in the end makes the words of the answer.
-use Rattle.std.proofs.Common.{◌≡◌, ℕ, zero, suc, ◌*◌, List, [], ◌∷◌, ◌++◌, length, set, replicate, slice_get, Some, None, Option, ◌⊎◌, inl, inr, sym, refl, ap, ◌∙◌, subst, ⊎_elim, arith}
+use Rattle.std.proofs.Common.{◌≡◌, ℕ, zero, suc, ◌*◌, List, [], ◌∷◌, ◌++◌, true, false, length, get_or, set, replicate, slice_get, is_none, Some, None, Option, ◌⊎◌, inl, inr, sym, refl, ap, ◌∙◌, subst, ⊎_elim, arith}
 use Rattle.std.specs.Option.{unwrap_or}
 use Rattle.std.proofs.lemmas.List.{length-set, length-replicate}
 use Rattle.std.proofs.lemmas.Bool.{cases_eq}
@@ -11,6 +11,14 @@ use Rattle.claims.specs.Tables.{Worded as WordedAll, Meant, Tabled}
 
 no_some : {A : Type 0} {x : A} → None ≡ Some x → ⊥
 no_some e = cc
+
+is_none-true : {A : Type 0} (o : Option A) → is_none o ≡ true → o ≡ None
+is_none-true None e = refl
+is_none-true (Some x) e = cc
+
+is_none-false : {A : Type 0} (o : Option A) → is_none o ≡ false → (x : A) × (o ≡ Some x)
+is_none-false None e = cc
+is_none-false (Some x) e = (x, refl)
 
 get_replicate : {A : Type 0} (n i : ℕ) (a x : A) → slice_get (replicate n a) i ≡ Some x → x ≡ a
 get_replicate zero i a x h = absurd (no_some h)
@@ -53,6 +61,16 @@ tabled_none names claims e = record {
 }
 
 module _ {K : Type 0} (names : List K) (ts : List (Told K)) (claims : List (Option Claim)) (s : Tabled names ts claims) (differ : Differ names) where
+  inside : (i : ℕ) (x : K) → slice_get names i ≡ Some x → slice_get claims i ≡ Some (get_or claims i None)
+  inside i x at = slice_get-get_or claims i None (omega (arith, s.many, slice_get_within names i x at))
+
+  -- nothing is claimed of a place, or something was told of it
+  pub tabled_first : (i : ℕ) (x : K) → slice_get names i ≡ Some x → is_none (get_or claims i None) ≡ true → slice_get claims i ≡ Some None
+  tabled_first i x at none = inside i x at ∙ ap Some (is_none-true (get_or claims i None) none)
+
+  pub tabled_again : (i : ℕ) (x : K) → slice_get names i ≡ Some x → is_none (get_or claims i None) ≡ false → (j : ℕ) × Only ts x j
+  tabled_again i x at some = let c = is_none-false (get_or claims i None) some in s.only i c.0 x (inside i x at ∙ ap Some c.1) at
+
   -- of a place of which nothing is claimed nothing is told
   pub tabled_open : (i : ℕ) (x : K) → slice_get names i ≡ Some x → slice_get claims i ≡ Some None → (j : ℕ) (t : Told K) → slice_get ts j ≡ Some t → t.named ≡ x → ⊥
   tabled_open i x at none j t h e =
@@ -125,5 +143,5 @@ module _ {K : Type 0} (names : List K) (ts : List (Told K)) (claims : List (Opti
       each i x at = some (slice_get claims i) refl
         where
           some : (o : Option (Option Claim)) → slice_get claims i ≡ o → (j : ℕ) × Only ts x j
-          some None e = absurd (no_some (sym e ∙ slice_get-get_or claims i None (omega (arith, s.many, slice_get_within names i x at))))
+          some None e = absurd (no_some (sym e ∙ inside i x at))
           some (Some o) e = let q = w.each i o e in s.only i q.0 x (e ∙ ap Some q.1) at

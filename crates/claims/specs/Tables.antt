@@ -8,11 +8,6 @@ use Rattle.claims.specs.declared.Claim.{Claim}
 use Rattle.claims.specs.declared.NoWords.{NoWords}
 use Rattle.claims.specs.declared.NoWords.TheVariants.{Unclaimed, Memory}
 
--- the first claim of a place is noted; another is not
-abbrev pub Noted : List (Option Claim) → ℕ → Claim → Bool → List (Option Claim) → Type 0
-Noted old i c true new = (slice_get old i ≡ Some None) × (new ≡ slice_set old i (Some c))
-Noted old i c false new = (d : Claim) × (slice_get old i ≡ Some (Some d)) × (new ≡ old)
-
 -- the two words of place i are those of the claim
 pub record Words (words : List ℕ) (i : ℕ) (c : Claim) : Type 0 where
   pub side : slice_index words (2 * i) ≡ number c.winner

@@ -1,8 +1,8 @@
 //! What an answer claims of each place, while its lines are read.
 #![tactic(auto)]
 
-ghost use Rattle.std.specs.Prelude.{◌≡◌, ◌<◌, length, replicate, None, IfOk};
-ghost use Rattle.claims.specs.Tables.{Noted, Wording};
+ghost use Rattle.std.specs.Prelude.{◌≡◌, ◌<◌, length, replicate, is_none, None, Some, IfOk, if◌then◌else◌, slice_index_or, slice_set};
+ghost use Rattle.claims.specs.Tables.{Wording};
 ghost use Rattle.claims.specs.declared.NoWords.TheVariants.{Memory};
 
 use endless::side::Side;
@@ -72,7 +72,8 @@ impl Claims {
     /// Notes what is claimed of a place, and tells whether it is the first.
     pub fn insert(&mut self, place: usize, claim: Claim) -> bool
         requires { place < length self.old }
-        ensures { Noted self.old place claim result self.new }
+        ensures first { result ≡ is_none (slice_index_or self.old place None) }
+        ensures noted { self.new ≡ (if result then slice_set self.old place (Some claim) else self.old) }
     {
         if self.claims[place].is_some() {
             return false;
