@@ -9,7 +9,7 @@ use Rattle.claims.specs.declared.Claim.{Claim}
 use Rattle.claims.specs.Answered.{Told, Differ, Goes, Only, Answered}
 use Rattle.claims.specs.Tables.{Worded as WordedAll, Meant, Tabled}
 
-no_some : {A : Type 0} {x : A} → None ≡ Some x → ⊥
+pub no_some : {A : Type 0} {x : A} → None ≡ Some x → ⊥
 no_some e = cc
 
 is_none-true : {A : Type 0} (o : Option A) → is_none o ≡ true → o ≡ None

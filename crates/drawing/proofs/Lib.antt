@@ -1,12 +1,15 @@
 pub mod Apartness
 mod Cases
+pub mod Collecting
 pub mod Counts
 pub mod Entries
 pub mod Files
 pub mod Gaming
+pub mod Hearing
 pub mod Indices
 pub mod Lexes
 pub mod Lines
+pub mod Lookups
 pub mod Moving
 pub mod Pieces
 pub mod Readings
@@ -14,5 +17,6 @@ pub mod Refusing
 pub mod RoundTrip
 pub mod Scans
 pub mod Spells
+pub mod Tellings
 pub mod Tokens
 pub mod Wrongs

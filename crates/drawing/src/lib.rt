@@ -8,6 +8,8 @@ ghost use Rattle.drawing.specs.Wrong.{Says};
 
 use std::alloc::Global;
 
+pub mod answer;
+mod answer_refusal;
 pub mod file;
 mod gather;
 mod line;
@@ -18,8 +20,11 @@ mod scan;
 pub mod shown;
 mod spell;
 mod token;
+mod told;
 mod write;
 
+pub use answer::{MOST_ANSWER_BYTES, read_answer};
+pub use answer_refusal::AnswerRefusal;
 pub use file::{Unread, read_from, read_path};
 pub use names::MOST_PLACES;
 pub use refusal::{Fault, Refusal};
