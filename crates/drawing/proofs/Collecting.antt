@@ -1,5 +1,5 @@
 -- Names are collected as long as they all differ.
-use Rattle.std.proofs.Common.{◌≡◌, ℕ, zero, suc, ◌+◌, ◌<◌, ◌≤◌, Bool, true, false, not, ◌||◌, List, [], ◌∷◌, ◌++◌, map, length, get_or, take, slice_get, string_bytes, Some, None, Option, String, ◌⊎◌, inl, inr, sym, refl, ap, ◌∙◌, subst, ⊎_elim, arith}
+use Rattle.std.proofs.Common.{◌≡◌, ℕ, zero, suc, ◌+◌, ◌<◌, ◌≤◌, Bool, true, false, not, ◌||◌, List, [], ◌∷◌, ◌++◌, map, length, get_or, take, slice_get, string_bytes, Some, String, ◌⊎◌, inl, inr, sym, refl, ap, ◌∙◌, subst, arith}
 use Rattle.std.specs.List.{list_any}
 use Rattle.std.specs.Str.{bytes_eq}
 use Rattle.std.specs.String.{string_eq}
@@ -33,9 +33,6 @@ no_name x (k ∷ ks) e (suc i) h = at (λ q. no_name x ks q i h) (bytes_eq x (st
 pub record CollectedTo (names so_far : List (List ℕ)) (n : ℕ) : Type 0 where
   pub are : so_far ≡ take n names
   pub differ : Differ so_far
-
-pub collected_none : (names so_far : List (List ℕ)) → so_far ≡ [] → CollectedTo names so_far 0
-collected_none names so_far e = record { are = e; differ = λ i j x h k. absurd (no_some (ap (λ l. slice_get l i) (sym e) ∙ h)) }
 
 pub collected_all : (names so_far : List (List ℕ)) (n : ℕ) → CollectedTo names so_far n → length names ≤ n → (so_far ≡ names) × Differ names
 collected_all names so_far n s l = let e = s.are ∙ take_all n names l in (e, subst Differ e s.differ)

@@ -1,5 +1,5 @@
 -- The place of a name, and of a move.
-use Rattle.std.proofs.Common.{◌≡◌, ℕ, List, [], length, get_or, slice_get, string_bytes, Some, None, Ok, Err, ok_or, Option, Result, String, sym, refl, ap, ◌∙◌, subst}
+use Rattle.std.proofs.Common.{◌≡◌, ℕ, List, [], string_bytes, Some, None, ok_or, Option, Result, String, sym, refl, ap, ◌∙◌, subst}
 use Rattle.std.specs.declared.alloc.Global.{Global}
 use Rattle.std.proofs.lemmas.Option.{slice_get_within, slice_get-get_or, get_or_from_slice_get}
 use Rattle.claims.proofs.Tabled.{no_some}

@@ -1,5 +1,5 @@
 -- What one line more tells.
-use Rattle.std.proofs.Common.{◌≡◌, ℕ, ◌+◌, ◌<◌, ◌≤◌, false, true, List, ◌∷◌, [], ◌++◌, length, replicate, take, get_or, set, slice_get, is_none, string_bytes, Some, None, Ok, Err, Option, Result, String, sym, refl, ap, ◌∙◌, subst, ⊎_elim, arith}
+use Rattle.std.proofs.Common.{◌≡◌, ℕ, ◌+◌, ◌<◌, ◌≤◌, false, true, List, ◌∷◌, [], ◌++◌, length, take, get_or, set, slice_get, is_none, string_bytes, Some, None, Ok, Err, Option, String, sym, refl, ap, ◌∙◌, subst, ⊎_elim, arith}
 use Rattle.std.specs.Option.{option_map, unwrap_or}
 use Rattle.std.specs.declared.alloc.Global.{Global}
 use Rattle.std.proofs.lemmas.List.{take_more, take_all, flat_map_more}
@@ -10,13 +10,13 @@ use Rattle.claims.specs.declared.NoWords.{NoWords}
 use Rattle.claims.specs.declared.NoWords.TheVariants.{Unclaimed}
 use Rattle.claims.specs.Answered.{Told, Differ, Goes}
 use Rattle.claims.specs.Tables.{Worded, Wording, Meant, Tabled}
-use Rattle.claims.proofs.Tabled.{tabled_none, tabled_first, tabled_again, tabled_open, tabled_more, tabled_all}
+use Rattle.claims.proofs.Tabled.{tabled_first, tabled_again, tabled_open, tabled_more, tabled_all}
 use Rattle.drawing.specs.declared.answer_refusal.AnswerRefusal.{AnswerRefusal}
 use Rattle.drawing.specs.declared.answer_refusal.AnswerRefusal.TheVariants.{Fault, Unknown, Twice, Missing, TooLong, TooManyPlaces, SameName, Memory}
 use Rattle.drawing.specs.declared.told.Told as rust
 use Rattle.drawing.specs.Lexed.{meant}
 use Rattle.drawing.specs.Heard.{told_by}
-use Rattle.drawing.specs.Telling.{Said, nothing, tells, bad, said, told_in, told_on}
+use Rattle.drawing.specs.Telling.{Said, tells, said, told_in, told_on}
 use Rattle.drawing.specs.Answering.{Good, Tells, ToldOf, SaysOfLine, SaysOfSome, Says, Collected, Aimed, LineTold, AllTold}
 use Rattle.drawing.specs.Reading.{lines}
 use Rattle.drawing.proofs.Lines.{Turn}
@@ -42,9 +42,6 @@ module _ (n : ℕ) (names : List (List ℕ)) (s : Said) (d : rust.Told) (is : s 
 pub record ToldTo (names ls : List (List ℕ)) (k : ℕ) (claims : List (Option Claim)) : Type 0 where
   pub good : (j : ℕ) → j < k → Good (said (get_or ls j []))
   pub tabled : Tabled names (told_on (take k ls)) claims
-
-pub told_none : (names ls : List (List ℕ)) (claims : List (Option Claim)) → claims ≡ replicate (length names) None → ToldTo names ls 0 claims
-told_none names ls claims e = record { good = λ j l. absurd (omega arith); tabled = tabled_none names claims e }
 
 pub told_all : (names ls : List (List ℕ)) (k : ℕ) (claims : List (Option Claim)) → ToldTo names ls k claims → length ls ≤ k → ((j : ℕ) → j < length ls → Good (said (get_or ls j []))) × Tabled names (told_on ls) claims
 told_all names ls k claims t l = (λ j h. t.good j (omega arith), subst (λ l. Tabled names (told_on l) claims) (take_all k ls l) t.tabled)

@@ -31,10 +31,12 @@ impl<'a> Line<'a> {
         ensures { LookedUp self.entry.number self.entry.names.now (meant word.entry) result }
     {
         let name = word.to_name(self.heap)?;
-        self.names.find(name.as_str()).ok_or(AnswerRefusal::Unknown {
-            line: self.number,
-            name,
-        })
+        self.names
+            .find(name.as_str())
+            .ok_or(AnswerRefusal::Unknown {
+                line: self.number,
+                name,
+            })
     }
 
     /// The index of the place that the move names, if there is a move.

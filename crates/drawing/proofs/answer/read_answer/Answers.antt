@@ -1,8 +1,7 @@
-use Rattle.std.proofs.Common.{◌≡◌, ◌<◌, map, length, Some, None, Err, option_map, slice_get, string_bytes, refl, sym, ap, ◌∙◌, subst, arith}
+use Rattle.std.proofs.Common.{◌≡◌, ◌<◌, map, length, Some, option_map, slice_get, string_bytes, refl, sym, ap, ◌∙◌, arith}
 use Rattle.std.proofs.lemmas.List.{length-map}
 use Rattle.std.proofs.lemmas.Option.{slice_get-map, slice_get_read}
 use Rattle.std.proofs.lemmas.Result.{err_from_is_err_and}
-use Rattle.claims.specs.Tables.{Wording}
 use Rattle.drawing.proofs.Tellings.{tells_words, open_within, open_missing, collected_wrong}
 use Rattle.drawing.proofs.answer.read_answer.Goals as goal
 use Rattle.drawing.proofs.answer.read_answer.Goals.{In-Err-Unclaimed}
@@ -19,8 +18,11 @@ returns-in-Ok-clause-tells c =
 -- the place is one of those that are named
 within : (c : In-Err-Unclaimed) → c.in-Err-Unclaimed.place < length c.args.names.now
 within c =
-    omega (arith, length-map c.args.names.now string_bytes,
-    open_within c.args.text.now (map string_bytes c.args.names.now) c.in_ok-places.places c.in_ok-places.ensures c.in_ok-claims.claims c.in_ok-claims.ensures c.in-Err-Unclaimed.field-0 c.in-Err-Unclaimed.place c.in-Err-Unclaimed.ensures c.in-Err-Unclaimed.field-0-is)
+    omega (
+      arith,
+      length-map c.args.names.now string_bytes,
+      open_within c.args.text.now (map string_bytes c.args.names.now) c.in_ok-places.places c.in_ok-places.ensures c.in_ok-claims.claims c.in_ok-claims.ensures c.in-Err-Unclaimed.field-0 c.in-Err-Unclaimed.place c.in-Err-Unclaimed.ensures c.in-Err-Unclaimed.field-0-is,
+    )
 
 pub offset_bounds-names-place : goal.offset_bounds-names-place
 offset_bounds-names-place c =

@@ -1,4 +1,4 @@
-use Rattle.std.proofs.Common.{◌+◌, [], length, take, lit<}
+use Rattle.std.proofs.Common.{length, take, lit<}
 use Rattle.std.specs.Iterator.Adapters.{enumerate_source}
 use Rattle.std.proofs.lemmas.Iterator.Consumers.{YieldsList-from_enumerate, YieldsList-turn, YieldsList-end}
 use Rattle.std.proofs.lemmas.Iterator.Splits.{YieldsList-from_str_split}
@@ -7,7 +7,7 @@ use Rattle.std.proofs.lemmas.Result.{err_from_is_err_and}
 use Rattle.drawing.specs.Reading.{lines}
 use Rattle.drawing.specs.Telling.{told_on}
 use Rattle.drawing.proofs.Lines.{Turn, turn_of, all_turned}
-use Rattle.drawing.proofs.Tellings.{told_none, told_all, told_more, told_wrong}
+use Rattle.drawing.proofs.Tellings.{told_all, told_more, told_wrong}
 use Rattle.drawing.proofs.answer.tell_all.Goals as goal
 use Rattle.drawing.proofs.answer.tell_all.Goals.{In-Some}
 

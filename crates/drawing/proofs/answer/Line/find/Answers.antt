@@ -1,4 +1,4 @@
-use Rattle.std.proofs.Common.{sym, ap, ◌∙◌}
+use Rattle.std.proofs.Common.{ap, ◌∙◌}
 use Rattle.drawing.specs.Lexed.{meant}
 use Rattle.drawing.specs.Reading.{index_of}
 use Rattle.drawing.proofs.Lookups.{looked_up}

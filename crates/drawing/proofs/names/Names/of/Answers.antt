@@ -1,4 +1,4 @@
-use Rattle.std.proofs.Common.{string_bytes, map, get_or, length, refl, sym, ap, ◌∙◌, arith}
+use Rattle.std.proofs.Common.{string_bytes, map, sym, ◌∙◌, arith}
 use Rattle.std.proofs.lemmas.List.{length-map}
 use Rattle.drawing.proofs.Collecting.{collected_all, inserted_twice, inserted_more}
 use Rattle.drawing.proofs.names.Names.of.Goals as goal
