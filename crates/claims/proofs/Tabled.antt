@@ -1,13 +1,15 @@
 -- What is told is noted one by one, and in the end makes the words of the answer.
-use Rattle.std.proofs.Common.{◌≡◌, ℕ, zero, suc, ◌*◌, List, [], ◌∷◌, ◌++◌, true, false, length, get_or, set, replicate, slice_get, is_none, Some, None, Option, ◌⊎◌, inl, inr, sym, refl, ap, ◌∙◌, subst, ⊎_elim, arith}
+use Rattle.std.proofs.Common.{◌≡◌, ℕ, zero, suc, ◌*◌, ◌<◌, List, [], ◌∷◌, ◌++◌, true, false, length, get_or, set, replicate, slice_get, is_none, Some, None, Err, Option, ◌⊎◌, inl, inr, sym, refl, ap, ◌∙◌, subst, ⊎_elim, arith}
 use Rattle.std.specs.Option.{unwrap_or}
 use Rattle.std.proofs.lemmas.List.{length-set, length-replicate}
 use Rattle.std.proofs.lemmas.Bool.{cases_eq}
 use Rattle.std.proofs.lemmas.Option.{same_Some, slice_get_within, slice_get-get_or}
 use Rattle.endless.specs.Sides.{number}
 use Rattle.claims.specs.declared.Claim.{Claim}
-use Rattle.claims.specs.Answered.{Told, Differ, Goes, Only, Answered}
-use Rattle.claims.specs.Tables.{Worded as WordedAll, Meant, Tabled}
+use Rattle.claims.specs.declared.NoWords.{NoWords}
+use Rattle.claims.specs.declared.NoWords.TheVariants.{Unclaimed}
+use Rattle.claims.specs.Answered.{Told, ToldOf, Differ, Goes, Only, Answered}
+use Rattle.claims.specs.Tables.{Worded as WordedAll, Wording, Meant, Tabled}
 
 pub no_some : {A : Type 0} {x : A} → None ≡ Some x → ⊥
 no_some e = cc
@@ -64,18 +66,21 @@ module _ {K : Type 0} (names : List K) (ts : List (Told K)) (claims : List (Opti
   inside : (i : ℕ) (x : K) → slice_get names i ≡ Some x → slice_get claims i ≡ Some (get_or claims i None)
   inside i x at = slice_get-get_or claims i None (omega (arith, s.many, slice_get_within names i x at))
 
-  -- nothing is claimed of a place, or something was told of it
-  pub tabled_first : (i : ℕ) (x : K) → slice_get names i ≡ Some x → is_none (get_or claims i None) ≡ true → slice_get claims i ≡ Some None
+  -- nothing is claimed of a place, or it was told of
+  tabled_first : (i : ℕ) (x : K) → slice_get names i ≡ Some x → is_none (get_or claims i None) ≡ true → slice_get claims i ≡ Some None
   tabled_first i x at none = inside i x at ∙ ap Some (is_none-true (get_or claims i None) none)
 
-  pub tabled_again : (i : ℕ) (x : K) → slice_get names i ≡ Some x → is_none (get_or claims i None) ≡ false → (j : ℕ) × Only ts x j
-  tabled_again i x at some = let c = is_none-false (get_or claims i None) some in s.only i c.0 x (inside i x at ∙ ap Some c.1) at
+  pub tabled_again : (i : ℕ) (x : K) → slice_get names i ≡ Some x → is_none (get_or claims i None) ≡ false → ToldOf ts x
+  tabled_again i x at some =
+      let c = is_none-false (get_or claims i None) some in
+      let p = s.only i c.0 x (inside i x at ∙ ap Some c.1) at in
+      (p.0, p.1.told, p.1.is, p.1.named)
 
   -- of a place of which nothing is claimed nothing is told
-  pub tabled_open : (i : ℕ) (x : K) → slice_get names i ≡ Some x → slice_get claims i ≡ Some None → (j : ℕ) (t : Told K) → slice_get ts j ≡ Some t → t.named ≡ x → ⊥
-  tabled_open i x at none j t h e =
-      let p = s.told j t h in
-      let same : p.0 ≡ i = differ p.0 i x (p.3.place ∙ ap Some e) at in
+  tabled_open : (i : ℕ) (x : K) → slice_get names i ≡ Some x → slice_get claims i ≡ Some None → ToldOf ts x → ⊥
+  tabled_open i x at none t =
+      let p = s.told t.0 t.1 t.2 in
+      let same : p.0 ≡ i = differ p.0 i x (p.3.place ∙ ap Some t.3) at in
       no_some (same_Some None (Some p.1) (sym none ∙ ap (slice_get claims) (sym same) ∙ p.2))
 
   module _ (t : Told K) (i : ℕ) (c : Claim) (none : slice_get claims i ≡ Some None) (meant : Meant names i c t) (new : List (Option Claim)) (is : new ≡ set claims i (Some c)) where
@@ -99,7 +104,7 @@ module _ {K : Type 0} (names : List K) (ts : List (Told K)) (claims : List (Opti
             told = t;
             is = get_push_last ts t;
             named = named;
-            one = λ l u g n. ⊎_elim (λ b. absurd (tabled_open i x (ap (slice_get names) (sym e) ∙ at) none l u b n)) (λ b. b.0) (get_push_cases ts t u l g);
+            one = λ l u g n. ⊎_elim (λ b. absurd (tabled_open i x (ap (slice_get names) (sym e) ∙ at) none (l, u, b, n))) (λ b. b.0) (get_push_cases ts t u l g);
           },
         )
     more_only k d x (inr e) h at =
@@ -113,13 +118,27 @@ module _ {K : Type 0} (names : List K) (ts : List (Told K)) (claims : List (Opti
           },
         )
 
-    -- one more is told
-    pub tabled_more : Tabled names (ts ++ (t ∷ [])) new
-    tabled_more = record {
+    added : Tabled names (ts ++ (t ∷ [])) new
+    added = record {
       many = ap length is ∙ length-set claims i (Some c) ∙ s.many;
       told = λ j u h. more_told j u (get_push_cases ts t u j h);
       only = λ k d x h at. more_only k d x (cases_eq k i) h at;
     }
+
+  -- one more is told
+  pub tabled_more : (t : Told K) (i : ℕ) (c : Claim) → Meant names i c t → is_none (get_or claims i None) ≡ true → (new : List (Option Claim)) → new ≡ set claims i (Some c) → Tabled names (ts ++ (t ∷ [])) new
+  tabled_more t i c meant none new is = added t i c (tabled_first i t.named meant.place none) meant new is
+
+  -- a place is one of those named, and not told of
+  module _ (w : NoWords) (i : ℕ) (wording : Wording claims (Err w)) (is : w ≡ Unclaimed i) where
+    none_there : slice_get claims i ≡ Some None
+    none_there = subst (λ w. Wording claims (Err w)) is wording
+
+    pub unclaimed_within : i < length names
+    unclaimed_within = omega (arith, slice_get_within claims i None none_there, s.many)
+
+    pub unclaimed_untold : (x : K) → slice_get names i ≡ Some x → ToldOf ts x → ⊥
+    unclaimed_untold x at t = tabled_open i x at none_there t
 
   -- the words of all
   pub tabled_all : (words : List ℕ) → WordedAll claims words → Answered names ts words

@@ -1,11 +1,19 @@
 -- The words of an answer, as lines tell them that name places.
-use Rattle.std.specs.Prelude.{◌≡◌, ℕ, ◌+◌, ◌*◌, List, length, Some, None, Option, slice_get, slice_index}
+use Rattle.std.specs.Prelude.{◌≡◌, ℕ, ◌+◌, ◌*◌, List, length, Some, None, Option, ◌≢◌, slice_get, slice_index}
 
 -- what a line tells: the name of a place, the side that wins it, and the name of its move, if it has one
 pub record Told (K : Type 0) : Type 0 where
   pub named : K
   pub side : ℕ
   pub goes : Option K
+
+-- one of those told is of this name
+abbrev pub ToldOf : {K : Type 0} → List (Told K) → K → Type 0
+ToldOf {K} ts x = (j : ℕ) × (t : Told K) × (slice_get ts j ≡ Some t) × (t.named ≡ x)
+
+-- none of the names is this one
+abbrev pub Lacks : {K : Type 0} → List K → K → Type 0
+Lacks names x = (i : ℕ) → slice_get names i ≢ Some x
 
 -- no two are the same
 abbrev pub Differ : {K : Type 0} → List K → Type 0

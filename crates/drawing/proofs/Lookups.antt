@@ -2,11 +2,12 @@
 use Rattle.std.proofs.Common.{◌≡◌, ℕ, List, [], string_bytes, Some, None, ok_or, Option, Result, String, sym, refl, ap, ◌∙◌, subst}
 use Rattle.std.specs.declared.alloc.Global.{Global}
 use Rattle.std.proofs.lemmas.Option.{slice_get_within, slice_get-get_or, get_or_from_slice_get}
+use Rattle.claims.specs.Answered.{Lacks}
 use Rattle.claims.proofs.Tabled.{no_some}
 use Rattle.drawing.specs.declared.answer_refusal.AnswerRefusal.{AnswerRefusal}
 use Rattle.drawing.specs.declared.answer_refusal.AnswerRefusal.TheVariants.{Unknown}
 use Rattle.drawing.specs.Reading.{index_of}
-use Rattle.drawing.specs.Answering.{Lacks, LookedUp}
+use Rattle.drawing.specs.Answering.{LookedUp}
 use Rattle.drawing.proofs.Apartness.{index_is}
 use Rattle.drawing.proofs.Indices.{index_some}
 

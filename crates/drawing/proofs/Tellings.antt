@@ -8,16 +8,16 @@ use Rattle.std.proofs.lemmas.Option.{slice_get_within}
 use Rattle.claims.specs.declared.Claim.{Claim}
 use Rattle.claims.specs.declared.NoWords.{NoWords}
 use Rattle.claims.specs.declared.NoWords.TheVariants.{Unclaimed}
-use Rattle.claims.specs.Answered.{Told, Differ, Goes}
+use Rattle.claims.specs.Answered.{Told, ToldOf, Differ, Goes}
 use Rattle.claims.specs.Tables.{Worded, Wording, Meant, Tabled}
-use Rattle.claims.proofs.Tabled.{tabled_first, tabled_again, tabled_open, tabled_more, tabled_all}
+use Rattle.claims.proofs.Tabled.{tabled_again, tabled_more, tabled_all, unclaimed_within, unclaimed_untold}
 use Rattle.drawing.specs.declared.answer_refusal.AnswerRefusal.{AnswerRefusal}
 use Rattle.drawing.specs.declared.answer_refusal.AnswerRefusal.TheVariants.{Fault, Unknown, Twice, Missing, TooLong, TooManyPlaces, SameName, Memory}
 use Rattle.drawing.specs.declared.told.Told as rust
 use Rattle.drawing.specs.Lexed.{meant}
 use Rattle.drawing.specs.Heard.{told_by}
 use Rattle.drawing.specs.Telling.{Said, tells, said, told_in, told_on}
-use Rattle.drawing.specs.Answering.{Good, Tells, ToldOf, SaysOfLine, SaysOfSome, Says, Collected, Aimed, LineTold, AllTold}
+use Rattle.drawing.specs.Answering.{Good, Tells, SaysOfLine, SaysOfSome, Says, Collected, Aimed, LineTold, AllTold}
 use Rattle.drawing.specs.Reading.{lines}
 use Rattle.drawing.proofs.Lines.{Turn}
 
@@ -28,15 +28,12 @@ aim_goes n names x (Some i) h = subst (λ x. Goes names x i) (sym h.1) h.2
 module _ (n : ℕ) (names : List (List ℕ)) (s : Said) (d : rust.Told) (is : s ≡ tells (told_by d)) where
   module _ (claims : List (Option Claim)) (differ : Differ names) (i : ℕ) (at : slice_get names i ≡ Some (meant d.name)) where
     pub tell_again : (y : String Global) → string_bytes y ≡ meant d.name → is_none (get_or claims i None) ≡ false → (ts : List (Told (List ℕ))) → Tabled names ts claims → SaysOfLine n names ts s (Twice n y)
-    tell_again y e some ts t =
-        let p = tabled_again names ts claims t differ i (meant d.name) at some in
-        (refl, told_by d, is, sym e, (p.0, p.1.told, p.1.is, p.1.named ∙ sym e))
+    tell_again y e some ts t = (refl, told_by d, is, sym e, subst (ToldOf ts) (sym e) (tabled_again names ts claims t differ i (meant d.name) at some))
 
     pub tell_more : (goal : Option ℕ) → Aimed n names (option_map meant d.goal) (Ok goal) → is_none (get_or claims i None) ≡ true → (new : List (Option Claim)) → new ≡ set claims i (Some (record { winner = d.side; goal = goal })) → (ts : List (Told (List ℕ))) → Tabled names ts claims → LineTold n names ts s new (Ok tt)
     tell_more goal aim none new e ts t =
-        let first = tabled_first names ts claims t differ i (meant d.name) at none in
         let meaning : Meant names i (record { winner = d.side; goal = goal }) (told_by d) = record { place = at; side = refl; goes = aim_goes n names (option_map meant d.goal) goal aim } in
-        subst (λ s. LineTold n names ts s new (Ok tt)) (sym is) (tt, tabled_more names ts claims t differ (told_by d) i (record { winner = d.side; goal = goal }) first meaning new e)
+        subst (λ s. LineTold n names ts s new (Ok tt)) (sym is) (tt, tabled_more names ts claims t differ (told_by d) i (record { winner = d.side; goal = goal }) meaning none new e)
 
 -- what is told on the first k lines
 pub record ToldTo (names ls : List (List ℕ)) (k : ℕ) (claims : List (Option Claim)) : Type 0 where
@@ -78,15 +75,12 @@ module _ (text : List ℕ) (names all : List (List ℕ)) (collected : Collected 
   tells_words words w = record { different = collected.1; good = told.0; answered = tabled_all names (told_on (lines text)) claims tabled collected.1 words w }
 
   -- of a place nothing is claimed
-  module _ (w : NoWords) (i : ℕ) (none : Wording claims (Err w)) (is : w ≡ Unclaimed i) where
-    empty : slice_get claims i ≡ Some None
-    empty = subst (λ w. Wording claims (Err w)) is none
-
+  module _ (w : NoWords) (i : ℕ) (wording : Wording claims (Err w)) (is : w ≡ Unclaimed i) where
     pub open_within : i < length names
-    open_within = omega (arith, slice_get_within claims i None empty, tabled.many)
+    open_within = unclaimed_within names (told_on (lines text)) claims tabled collected.1 w i wording is
 
     pub open_missing : (x : List ℕ) → slice_get names i ≡ Some x → (j : ℕ) × (slice_get names j ≡ Some x) × (ToldOf (told_on (lines text)) x → ⊥)
-    open_missing x at = (i, at, λ t. tabled_open names (told_on (lines text)) claims tabled collected.1 i x at empty t.0 t.1 t.2 t.3)
+    open_missing x at = (i, at, unclaimed_untold names (told_on (lines text)) claims tabled collected.1 w i wording is x at)
 
 pub collected_wrong : (text : List ℕ) (names : List (List ℕ)) (e : AnswerRefusal) → Collected names (Err e) → Says text names e
 collected_wrong text names e h = h text

@@ -1,6 +1,6 @@
 -- The answer that a text tells, and what is wrong with a text that tells none.
 use Rattle.std.specs.Prelude.{◌≡◌, ℕ, ◌+◌, ◌<◌, List, [], ◌++◌, length, take, Some, None, Ok, Err, Option, Result, string_bytes, slice_get, slice_index_or, ◌⊎◌, ◌≢◌}
-use Rattle.claims.specs.Answered.{Told, Differ, Answered}
+use Rattle.claims.specs.Answered.{Told, ToldOf, Lacks, Differ, Answered}
 use Rattle.claims.specs.Tables.{Tabled}
 use Rattle.claims.specs.declared.Claim.{Claim}
 use Rattle.drawing.specs.declared.answer_refusal.AnswerRefusal.{AnswerRefusal}
@@ -19,13 +19,6 @@ pub record Tells (text : List ℕ) (names : List (List ℕ)) (words : List ℕ) 
   pub different : Differ names
   pub good : (k : ℕ) → k < length (lines text) → Good (said (slice_index_or (lines text) k []))
   pub answered : Answered names (told_on (lines text)) words
-
-abbrev pub Lacks : List (List ℕ) → List ℕ → Type 0
-Lacks names x = (i : ℕ) → slice_get names i ≢ Some x
-
--- one of those told is of this name
-abbrev pub ToldOf : List (Told (List ℕ)) → List ℕ → Type 0
-ToldOf ts x = (j : ℕ) × (t : Told (List ℕ)) × (slice_get ts j ≡ Some t) × (t.named ≡ x)
 
 -- what a refusal says of line n, of what it says, and of what is told on the lines before
 abbrev pub SaysOfLine : ℕ → List (List ℕ) → List (Told (List ℕ)) → Said → AnswerRefusal → Type 0
