@@ -7,4 +7,6 @@ pub mod Lengths
 pub mod Looking
 pub mod SameWins
 pub mod Scans
+pub mod Tellings
+pub mod Verdicts
 pub mod Writes

@@ -15,18 +15,23 @@ use crate::weights::NoWeights;
 use crate::wrong::Wrong;
 use std::alloc::Global;
 
+pub mod answer;
 mod ids;
 mod line;
 mod node;
 pub mod refusal;
 mod scan;
+mod solution_refusal;
 mod text;
+mod verdict;
 pub mod weights;
 mod words;
 mod wrong;
 
+pub use answer::read_solution;
 pub use node::MOST_MOVES;
 pub use refusal::{Fault, Refusal};
+pub use solution_refusal::SolutionRefusal;
 pub use text::MOST_NODES;
 pub use weights::compress;
 
