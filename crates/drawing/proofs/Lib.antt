@@ -1,12 +1,15 @@
 pub mod Apartness
 mod Cases
+pub mod Collecting
 pub mod Counts
 pub mod Entries
 pub mod Gaming
+pub mod Hearing
 pub mod Indices
 pub mod Lexes
 pub mod Lines
 pub mod LinesBack
+pub mod Lookups
 pub mod Moving
 pub mod Numbers
 pub mod Pieces
@@ -18,5 +21,6 @@ pub mod Rows
 pub mod Scans
 pub mod Sheets
 pub mod Spells
+pub mod Tellings
 pub mod Tokens
 pub mod Wrongs

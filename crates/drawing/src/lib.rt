@@ -8,6 +8,8 @@ ghost use Rattle.drawing.specs.Wrong.{Says};
 
 use std::alloc::Global;
 
+pub mod answer;
+mod answer_refusal;
 mod gather;
 mod line;
 mod names;
@@ -18,8 +20,11 @@ pub mod sheet;
 pub mod shown;
 mod spell;
 mod token;
+mod told;
 mod write;
 
+pub use answer::{MOST_ANSWER_BYTES, read_answer};
+pub use answer_refusal::AnswerRefusal;
 pub use names::MOST_PLACES;
 pub use refusal::{Fault, Refusal};
 pub use sheet::{Sheet, draw};

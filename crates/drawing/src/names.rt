@@ -2,7 +2,9 @@
 ghost use Rattle.std.specs.Prelude.{◌≡◌, [], length, map, string_bytes, IfOk};
 ghost use Rattle.drawing.specs.Reading.{index_of};
 ghost use Rattle.drawing.specs.Passes.{Added};
+ghost use Rattle.drawing.specs.Answering.{Collected};
 
+use crate::answer_refusal::AnswerRefusal;
 use crate::refusal::Refusal;
 use indexmap::IndexSet;
 use std::alloc::{AllocError, Global};
@@ -35,6 +37,24 @@ impl Names {
         Names {
             names: IndexSet::new(heap),
         }
+    }
+
+    /// These names, as long as they all differ.
+    pub(crate) fn of(heap: Global, names: &[String]) -> Result<Names, AnswerRefusal>
+        ensures { Collected (map string_bytes names.now) result }
+    {
+        if names.len() > MOST_PLACES {
+            return Err(AnswerRefusal::TooManyPlaces);
+        }
+        let mut all = IndexSet::new(heap);
+        for name in names {
+            if !all.insert(name.clone()?)? {
+                return Err(AnswerRefusal::SameName {
+                    name: name.clone()?,
+                });
+            }
+        }
+        Ok(Names { names: all })
     }
 
     pub(crate) fn len(&self) -> u32

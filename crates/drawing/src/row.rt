@@ -26,7 +26,7 @@ pub(crate) struct Row<'a> {
     pub(crate) moves: Tokens<'a>,
 }
 
-fn side(word: Spelt<'_>) -> Option<Side>
+pub(crate) fn side_of(word: Spelt<'_>) -> Option<Side>
     ensures { option_map number result ≡ side_of (is_quoted word.entry) (meant word.entry) }
 {
     // No `parse`: tried, and that its words are those of the form was not found.
@@ -93,7 +93,7 @@ fn read_row(line: &str) -> Result<Option<Row<'_>>, Fault>
     let Token::Word(name) = first? else {
         return Err(Fault::Form);
     };
-    let side = side(tokens.word()?).ok_or(Fault::Side)?;
+    let side = side_of(tokens.word()?).ok_or(Fault::Side)?;
     let weight = weight(tokens.word()?).ok_or(Fault::Weight)?;
     tokens.colon()?;
     let count = count_moves(tokens)?;

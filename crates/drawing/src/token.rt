@@ -83,7 +83,7 @@ impl<'a> Tokens<'a> {
 }
 
 /// Whether a word may end here.
-fn is_apart(rest: &str) -> bool
+pub(crate) fn is_apart(rest: &str) -> bool
     ensures { result ≡ apart rest.now }
 {
     match rest.as_bytes() {
@@ -139,7 +139,7 @@ fn quoted_word(text: &str) -> Result<(Spelt<'_>, &str), Fault>
 }
 
 /// The next token of a line, and what is left of the line.
-fn next_token(line: &str) -> Result<Option<(Token<'_>, &str)>, Fault>
+pub(crate) fn next_token(line: &str) -> Result<Option<(Token<'_>, &str)>, Fault>
     ensures { Lexed (next_piece line.now) result }
 {
     let (_, text) = line.split_at(scan::blank_len(line.as_bytes()));

@@ -2,6 +2,9 @@
 #![tactic(auto)]
 
 #[cfg(test)]
+mod answers;
+
+#[cfg(test)]
 mod tests {
     use drawing::shown::shown_line;
     use drawing::{Fault, Name, Quoted, Refusal, draw, read, written};

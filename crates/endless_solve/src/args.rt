@@ -1,10 +1,13 @@
 //! What the command line asks for.
 use crate::fault::Fault;
+use endless::side::Side;
 use forms::Form;
 use std::alloc::{AllocError, AllocFailed, Global};
 use std::env::Args;
 
 pub const HELP: &str = "usage: endless_solve [--format FORM] [--output FORM] [--summary] [FILE ..]
+       endless_solve [--format FORM] --check ANSWER [FILE]
+       endless_solve [--format FORM] --reach NAME [--side 0|1] [FILE ..]
 
 Reads a game from FILE, or from standard input where FILE is missing or -, and
 tells for each place which side wins it, and by which move. Of more than one
@@ -26,6 +29,13 @@ FILE each is told behind a line # FILE, up to the first that is refused.
   --output pg        the game in PGSolver's form
   --output summary   that it is a game, and how many places each side has
 
+  --check ANSWER     look at the answer in the file ANSWER, as --output places or
+                     solution prints it: right, or what is wrong with it; the
+                     status is 1 where it is wrong
+  --reach NAME       tell for each place the least number of moves in which side
+                     0 (with --side 1 side 1) can make sure that the play comes
+                     to the place NAME: NAME NUMBER MOVE, with - for what there
+                     is not
   --summary          besides, on standard error: how many places, moves and
                      different weights there are, how many places each side
                      wins, and how long that took
@@ -78,15 +88,59 @@ impl TryFrom<String> for Output {
     }
 }
 
-/// Games to read, `-` for standard input, and what to print of each.
+/// What is asked of a game.
+#[derive(Drop)]
+pub enum Task {
+    /// Whether the answer in this file is one.
+    Check(String),
+    /// How soon a side can make sure of the place of this name.
+    Reach { target: String, side: Side },
+    /// To print it, or its answer; and whether to tell besides how large it is,
+    /// and who wins how much.
+    Show { output: Output, summary: bool },
+}
+
+/// Games to read, `-` for standard input, and what is asked of each.
 #[derive(Drop)]
 pub struct Job {
     pub files: Vec<String>,
     /// The form of all files, where it is not told by their names.
     pub form: Option<Form>,
-    pub output: Output,
-    /// Whether to tell besides how large each is, and who wins how much.
-    pub summary: bool,
+    pub task: Task,
+}
+
+/// What the options say.
+#[derive(Drop)]
+struct Options {
+    files: Vec<String>,
+    form: Option<Form>,
+    output: Output,
+    summary: bool,
+    check: Option<String>,
+    reach: Option<String>,
+    side: Side,
+}
+
+impl Options {
+    /// What is asked for by them together.
+    fn into_job(self) -> Result<Job, Fault> {
+        let Options {
+            files,
+            form,
+            output,
+            summary,
+            check,
+            reach,
+            side,
+        } = self;
+        let task = match (check, reach) {
+            (Some(_), Some(_)) => return Err(Fault::TwoTasks),
+            (Some(answer), None) => Task::Check(answer),
+            (None, Some(target)) => Task::Reach { target, side },
+            (None, None) => Task::Show { output, summary },
+        };
+        Ok(Job { files, form, task })
+    }
 }
 
 #[derive(Drop)]
@@ -97,32 +151,42 @@ pub enum Request {
 
 /// The arguments, behind the program's own name.
 pub(crate) fn parse(heap: Global, args: Args) -> Result<Request, Fault> {
-    let mut job = Job {
+    let mut options = Options {
         files: Vec::new(heap),
         form: None,
         output: Output::Answer(Answer::Places),
         summary: false,
+        check: None,
+        reach: None,
+        side: Side::Even,
     };
     let mut args = args.skip(1);
     while let Some(arg) = args.next() {
         match arg.as_str() {
             "--help" => return Ok(Request::Help),
-            "--summary" => job.summary = true,
+            "--summary" => options.summary = true,
             "--output" => {
                 let name = args.next().ok_or(Fault::NoOutput)?;
-                job.output = Output::try_from(name).map_err(Fault::Output)?;
+                options.output = Output::try_from(name).map_err(Fault::Output)?;
             }
             "--format" => {
                 let name = args.next().ok_or(Fault::NoFormat)?;
-                job.form = Some(Form::try_from(name).map_err(Fault::Format)?);
+                options.form = Some(Form::try_from(name).map_err(Fault::Format)?);
             }
-            _ => job.files.push(file_named(arg)?)?,
+            "--check" => options.check = Some(args.next().ok_or(Fault::NoCheck)?),
+            "--reach" => options.reach = Some(args.next().ok_or(Fault::NoReach)?),
+            "--side" => options.side = side_named(args.next().ok_or(Fault::NoSide)?)?,
+            _ => options.files.push(file_named(arg)?)?,
         }
     }
-    if job.files.is_empty() {
-        job.files.push(String::from_str(heap, "-")?)?;
+    if options.files.is_empty() {
+        options.files.push(String::from_str(heap, "-")?)?;
     }
-    Ok(Request::Read(job))
+    Ok(Request::Read(options.into_job()?))
+}
+
+fn side_named(arg: String) -> Result<Side, Fault> {
+    arg.as_str().parse().map_err(|_| Fault::Side(arg))
 }
 
 /// A file to read: an option that there is not is no file.

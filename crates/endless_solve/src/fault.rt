@@ -1,4 +1,5 @@
 //! Why the program ends without an answer.
+use crate::answer::NoAnswer;
 use endless::Refusal;
 use forms::Unread;
 use std::alloc::{AllocError, AllocFailed};
@@ -19,6 +20,22 @@ pub enum Fault {
     Output(String),
     /// `--output` is the last word.
     NoOutput,
+    /// `--check` is the last word.
+    NoCheck,
+    /// `--reach` is the last word.
+    NoReach,
+    /// `--side` is the last word.
+    NoSide,
+    /// There is no such side.
+    Side(String),
+    /// An answer is to be looked at, and moves to be counted.
+    TwoTasks,
+    /// An answer is to be looked at for more than one game.
+    OneGame,
+    /// The game has no place of that name.
+    NoPlace { file: String, place: String },
+    /// The file holds no answer that can be read.
+    NoAnswer { file: String, why: NoAnswer },
     /// The file holds no game that can be read.
     Unread { file: String, why: Unread },
     /// The solver refused the game, which it never does for one that was read.
@@ -63,6 +80,17 @@ impl fmt::Display for Fault {
             Fault::NoFormat => f.write_str("--format wants a word behind it: drawing or pgsolver"),
             Fault::Output(name) => write!(f, "there is no output {name}; it is {OUTPUTS}"),
             Fault::NoOutput => write!(f, "--output wants a word behind it: {OUTPUTS}"),
+            Fault::NoCheck => f.write_str("--check wants the file of an answer behind it"),
+            Fault::NoReach => f.write_str("--reach wants the name of a place behind it"),
+            Fault::NoSide => f.write_str("--side wants a side behind it: 0 or 1"),
+            Fault::Side(word) => write!(f, "there is no side {word}; it is 0 or 1"),
+            Fault::TwoTasks => f.write_str("--check and --reach are asked for one at a time"),
+            Fault::OneGame => f.write_str("--check looks at an answer to one game; name one FILE"),
+            Fault::NoPlace { file, place } => write!(
+                f,
+                "{file}: there is no place named {place}; --output places lists the names"
+            ),
+            Fault::NoAnswer { file, why } => write!(f, "{file}: {why}"),
             Fault::Unread { file, why } => write!(f, "{file}: {why}"),
             Fault::Unsolved => f.write_str("the solver refused the game"),
             Fault::Unwritten(error) => write!(f, "{error}"),

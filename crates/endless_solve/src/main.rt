@@ -1,13 +1,19 @@
 //! Reads a game, and tells who wins each place and by which move.
 #![tactic(auto)]
 
+mod answer;
 mod args;
+mod check;
 mod fault;
 mod input;
+mod names;
+mod reach;
 mod report;
+mod round;
 mod show;
 mod solution;
 mod summary;
+mod task;
 
 use args::Request;
 use fault::Fault;
@@ -18,7 +24,7 @@ use std::process::ExitCode;
 // and a crate for these lines would be longer than they are.
 fn main(rt: HostRuntime) -> ExitCode {
     match run(&rt) {
-        Ok(()) => ExitCode::SUCCESS,
+        Ok(status) => status,
         Err(fault) => {
             let _ = eprintln!(rt; "endless_solve: {fault}");
             ExitCode::FAILURE
@@ -26,10 +32,12 @@ fn main(rt: HostRuntime) -> ExitCode {
     }
 }
 
-fn run(rt: &HostRuntime) -> Result<(), Fault> {
+fn run(rt: &HostRuntime) -> Result<ExitCode, Fault> {
     match args::parse(rt.alloc(), env::args(rt)?)? {
-        Request::Help => rt.println(args::HELP)?,
-        Request::Read(job) => show::show_all(rt, &job)?,
+        Request::Help => {
+            rt.println(args::HELP)?;
+            Ok(ExitCode::SUCCESS)
+        }
+        Request::Read(job) => task::run_all(rt, &job),
     }
-    Ok(())
 }

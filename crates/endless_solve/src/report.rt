@@ -1,7 +1,7 @@
 //! What is printed of a game and its answer.
 ghost use Rattle.std.specs.Prelude.{◌<◌, length};
 
-use drawing::Name;
+use crate::names::name_of;
 use endless::answer::{PlaceId, goes_to, won_by};
 use endless::graph::Places;
 use endless::side::Side;
@@ -35,19 +35,14 @@ fn place_line<W: Write>(
     let (Some(winner), Some(to)) = (won_by(answer, at), goes_to(answer, at)) else {
         return Ok(());
     };
-    let name = name(names, at);
+    let name = name_of(names, at);
     let side = winner.0;
     if places.is_own(side, place) {
-        let to = self::name(names, to);
+        let to = name_of(names, to);
         writeln!(out, "{name} {side} {to}")
     } else {
         writeln!(out, "{name} {side} -")
     }
-}
-
-/// The name of a place, as a drawing writes it.
-fn name(names: &[String], place: PlaceId) -> Name<'_> {
-    Name(names.get(place.0 as usize).map_or("?", |name| name.as_str()))
 }
 
 /// The answer's words: a line for each place.

@@ -1,5 +1,5 @@
-//! What is asked for of each file.
-use crate::args::{Answer, Game, Job, Output};
+//! A game or its answer is printed.
+use crate::args::{Answer, Game, Output};
 use crate::fault::Fault;
 use crate::{input, report, solution, summary};
 use dot::Picture;
@@ -11,30 +11,25 @@ use pgsolver::{GameText, Solution};
 use std::alloc::AllocError;
 use std::io::{BufWriter, Write};
 
-/// What is asked for of each file, behind a line with its name where there
-/// are several.
-pub(crate) fn show_all(rt: &HostRuntime, job: &Job) -> Result<(), Fault> {
-    for file in job.files.iter() {
-        show(rt, file.as_str(), job)?;
-    }
-    Ok(())
-}
-
-fn show(rt: &HostRuntime, file: &str, job: &Job) -> Result<(), Fault> {
-    let Source { words, labels } = input::source(rt, file, job.form)?;
-    if job.files.len() > 1 {
-        println!(rt; "# {file}")?;
-    }
+/// The game in a file, or its answer, in a form of output.
+pub(crate) fn show(
+    rt: &HostRuntime,
+    file: &str,
+    source: Source,
+    output: Output,
+    summary: bool,
+) -> Result<(), Fault> {
+    let Source { words, labels } = source;
     let heap = rt.alloc();
     let name = input::shown(file);
     let words = words.as_slice();
-    match job.output {
+    match output {
         Output::Game(form) => {
             let game = GameWords::read(words).ok_or(Fault::Unsolved)?;
             let mut starts = vec![in heap; [0, 0]; game.len() as usize]?;
             let places = Places::new(game, starts.as_mut_slice());
             show_game(rt, name, form, &places, labels)?;
-            if job.summary {
+            if summary {
                 summary::tell(rt, name, words, &solution::solve(rt, words)?)?;
             }
         }
@@ -44,7 +39,7 @@ fn show(rt: &HostRuntime, file: &str, job: &Job) -> Result<(), Fault> {
             let mut starts = vec![in heap; [0, 0]; game.len() as usize]?;
             let places = Places::new(game, starts.as_mut_slice());
             show_answer(rt, form, &places, labels, solved.answer.as_slice())?;
-            if job.summary {
+            if summary {
                 summary::tell(rt, name, words, &solved)?;
             }
         }

@@ -8,6 +8,6 @@ mod source;
 mod unread;
 
 pub use form::Form;
-pub use read::{read_from, read_path};
+pub use read::{read_from, read_path, read_text_from, read_text_path};
 pub use source::{Labels, Source};
 pub use unread::{Refused, Unread};

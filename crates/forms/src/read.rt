@@ -13,14 +13,15 @@ use std::alloc::{AllocError, Global};
 use std::fs::File;
 use std::io::Read;
 
-/// The bytes that a reader still has, up to one more than `most`, as text.
-fn read_text<R: Read + Drop>(heap: Global, reader: R, most: usize) -> Result<String, Unread>
-    requires { most ≤ 1572864 }
+/// The bytes that a reader still has, up to one more than `most`, as text. Where
+/// as many stand there as can be told, it is want of memory.
+pub fn read_text_from<R: Read + Drop>(heap: Global, reader: R, most: usize) -> Result<String, Unread>
     ensures text { IfOk result (λ s. IfSome (R.remaining reader) (λ bytes. string_bytes s ≡ take (most + 1) bytes)) }
     ensures wrong { IfErr result (λ e. IfSome (R.remaining reader) (λ bytes. TellsNoText (take (most + 1) bytes) e)) }
 {
-    let mut bytes = Vec::with_capacity(heap, most + 1)?;
-    reader.take(most as u64 + 1).read_to_end(&mut bytes)?;
+    let most = most.checked_add(1).ok_or(Unread::Memory)?;
+    let mut bytes = Vec::with_capacity(heap, most)?;
+    reader.take(most as u64).read_to_end(&mut bytes)?;
     String::from_utf8(bytes).map_err(|_| Unread::NotText)
 }
 
@@ -78,8 +79,13 @@ pub fn read_from<R: Read + Drop>(heap: Global, reader: R, form: Form) -> Result<
     ensures shows { IfOk result (λ s. IfSome (R.remaining reader) (λ bytes. Shows bytes s)) }
     ensures tells { IfErr result (λ e. IfSome (R.remaining reader) (λ bytes. Tells (take (limit form + 1) bytes) e)) }
 {
-    let text = read_text(heap, reader, form.most())?;
+    let text = read_text_from(heap, reader, form.most())?;
     read_shown(heap, text.as_str(), form)
+}
+
+/// The text that stands in the file of this path, up to one byte more than `most`.
+pub fn read_text_path(rt: &HostRuntime, path: &str, most: usize) -> Result<String, Unread> {
+    read_text_from(rt.alloc(), File::open(rt, path)?, most)
 }
 
 /// Reads the game that stands in the file of this path.

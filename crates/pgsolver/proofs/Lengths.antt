@@ -94,19 +94,23 @@ goals_less (suc n) used acc bs own r h =
     let s = goals_step n used acc bs own r h in
     ⊎_elim (λ t. omega (arith, s.shorter, ap length t.1)) (λ t. omega (arith, s.shorter, t.1, goals_less n used (acc ++ (s.goal ∷ [])) t.0 own r t.2)) s.on
 
+pub owner_less : (bs : List ℕ) (w : Side) (r : List ℕ) → owner bs ≡ Ok (w, r) → length r < length bs
+owner_less bs w r e =
+    let n = then_ok (number Number bs) owner_of (w, r) e in
+    let m : n.0.1 ≡ r = kept n.0 (w, r) (side_of n.0.0) n.2 in
+    omega (arith, number_less Number bs n.0.0 n.0.1 n.1, ap length m)
+  where
+    kept : (x : ℕ × List ℕ) (y : Side × List ℕ) (o : Option Side) → owner_on x.1 o ≡ Ok y → x.1 ≡ y.1
+    kept x y None k = absurd (ok_not k)
+    kept x y (Some w) k = ap (λ p. p.1) (ok_is k)
+
 head_less : (bs : List ℕ) (h : Head) (r : List ℕ) → head bs ≡ Ok (h, r) → length r < length bs
 head_less bs h r e =
     let i = then_ok (number Number bs) _ _ e in
     let p = then_ok (number Number i.0.1) _ _ i.2 in
     let o = then_ok (owner p.0.1) _ _ p.2 in
-    let n = then_ok (number Number p.0.1) owner_of o.0 o.1 in
     let q : o.0.1 ≡ r = ap (λ p. p.1) (ok_is o.2) in
-    let m : n.0.1 ≡ o.0.1 = kept n.0 o.0 (side_of n.0.0) n.2 in
-    omega (arith, number_less Number bs i.0.0 i.0.1 i.1, number_less Number i.0.1 p.0.0 p.0.1 p.1, number_less Number p.0.1 n.0.0 n.0.1 n.1, ap length q, ap length m)
-  where
-    kept : (x : ℕ × List ℕ) (y : Side × List ℕ) (o : Option Side) → owner_on x.1 o ≡ Ok y → x.1 ≡ y.1
-    kept x y None k = absurd (ok_not k)
-    kept x y (Some w) k = ap (λ p. p.1) (ok_is k)
+    omega (arith, number_less Number bs i.0.0 i.0.1 i.1, number_less Number i.0.1 p.0.0 p.0.1 p.1, owner_less p.0.1 o.0.0 o.0.1 o.1, ap length q)
 
 name_le : (bs n r : List ℕ) → name bs ≡ Ok (n, r) → length r ≤ length bs
 name_le bs n r h = on (behind (34 ∷ []) bs) refl h
@@ -126,7 +130,7 @@ ended_le bs r h = on (behind (59 ∷ []) bs) refl h
     on None e k = absurd (ok_not k)
     on (Some x) e k = omega (arith, ap length (ok_is k), behind_less 59 bs x e)
 
-tail_le : (bs n r : List ℕ) → tail bs ≡ Ok (n, r) → length r ≤ length bs
+pub tail_le : (bs n r : List ℕ) → tail bs ≡ Ok (n, r) → length r ≤ length bs
 tail_le bs n r h =
     let p = then_ok (name bs) _ _ h in
     let e = then_ok (ended p.0.1) _ _ p.2 in

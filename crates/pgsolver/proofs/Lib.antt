@@ -11,5 +11,7 @@ pub mod Rereading
 pub mod SameWins
 pub mod Scans
 pub mod Solutions
+pub mod Tellings
+pub mod Verdicts
 pub mod Writes
 pub mod Writing

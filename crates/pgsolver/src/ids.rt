@@ -1,9 +1,12 @@
 //! The places of the nodes by their ids.
-ghost use Rattle.std.specs.Prelude.{◌≡◌, ◌≤◌, length};
+ghost use Rattle.std.specs.Prelude.{◌≡◌, ◌≤◌, length, map};
 ghost use Rattle.pgsolver.specs.Table.{Finds};
 ghost use Rattle.pgsolver.specs.Wrongs.{Indexed};
+ghost use Rattle.pgsolver.specs.Answering.{Collected};
 
-use crate::text::Node;
+use crate::Named;
+use crate::solution_refusal::SolutionRefusal;
+use crate::text::{MOST_NODES, Node};
 use crate::wrong::Wrong;
 use indexmap::IndexSet;
 use std::alloc::Global;
@@ -38,6 +41,28 @@ impl Places {
             }
         }
         Ok(Places { ids })
+    }
+
+    /// The places of nodes that are named, as long as their ids all differ.
+    pub(crate) fn named(heap: Global, nodes: &[Named]) -> Result<Places, SolutionRefusal>
+        ensures { Collected (map (λ p. p.id) nodes.now) result }
+    {
+        if nodes.len() > MOST_NODES {
+            return Err(SolutionRefusal::TooManyNodes);
+        }
+        let mut ids = IndexSet::new(heap);
+        for named in nodes {
+            if !ids.insert(named.id)? {
+                return Err(SolutionRefusal::SameId { id: named.id });
+            }
+        }
+        Ok(Places { ids })
+    }
+
+    pub(crate) fn len(&self) -> usize
+        ensures { result ≡ length self.now }
+    {
+        self.ids.len()
     }
 
     /// The place of the node with this id.

@@ -15,6 +15,7 @@ use crate::weights::NoWeights;
 use crate::wrong::Wrong;
 use std::alloc::{AllocError, Global};
 
+pub mod answer;
 mod highest;
 mod ids;
 mod line;
@@ -23,16 +24,20 @@ mod node;
 pub mod refusal;
 mod scan;
 mod solution;
+mod solution_refusal;
 mod text;
+mod verdict;
 pub mod weights;
 mod words;
 mod write;
 mod wrong;
 
+pub use answer::read_solution;
 pub use names::called;
 pub use node::MOST_MOVES;
 pub use refusal::{Fault, Refusal};
 pub use solution::Solution;
+pub use solution_refusal::SolutionRefusal;
 pub use text::MOST_NODES;
 pub use weights::compress;
 pub use write::GameText;

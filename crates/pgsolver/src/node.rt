@@ -20,7 +20,7 @@ pub(crate) struct Head {
     pub(crate) owner: Side,
 }
 
-fn owner(text: &[u8]) -> Result<(Side, &[u8]), Slip>
+pub(crate) fn owner(text: &[u8]) -> Result<(Side, &[u8]), Slip>
     ensures { Read (owner text.now) result }
 {
     let (word, rest) = scan::number(Fault::Number, text)?;

@@ -29,7 +29,7 @@ pub(crate) fn behind<'a>(word: &[u8], text: &'a [u8]) -> Option<&'a [u8]>
 }
 
 /// The number of the digits in front.
-fn digits(text: &[u8]) -> Result<(u32, &[u8]), Slip>
+pub(crate) fn digits(text: &[u8]) -> Result<(u32, &[u8]), Slip>
     ensures { Read (digits 0 text.now) result }
 {
     // No `parse`: it does not tell at which digit the number becomes too large.

@@ -72,7 +72,7 @@ fn read_nodes(heap: Global, text: &[u8]) -> Result<Vec<Node<'_>>, Stop>
 }
 
 /// What stands behind a word, a number and a semicolon, or the text where it does not begin with the word.
-fn header<'a>(word: &[u8], text: &'a [u8]) -> Result<&'a [u8], Slip>
+pub(crate) fn header<'a>(word: &[u8], text: &'a [u8]) -> Result<&'a [u8], Slip>
     ensures { ReadRest (header word.now text.now) result }
 {
     let Some(rest) = scan::behind(word, text) else {

@@ -1,0 +1,3 @@
+-- What lines claim of places, and the words of an answer.
+pub mod Answered
+pub mod Tables

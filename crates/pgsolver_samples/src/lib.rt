@@ -1,0 +1,5 @@
+//! Samples of texts in PGSolver's form, as tests of the crate `pgsolver`.
+#![tactic(auto)]
+
+#[cfg(test)]
+mod answers;
