@@ -3,7 +3,9 @@
 #![tactic(auto)]
 
 mod answer;
+mod changes;
 mod report;
+mod tally;
 mod trial;
 
 use allplans::families;
@@ -33,6 +35,7 @@ fn run(rt: &HostRuntime) -> Result<(), Error> {
     let mut report = Report::new(rt)?;
     worked(heap, &mut report)?;
     small(heap, &mut report)?;
+    changed(heap, &mut report)?;
     attractors(heap, &mut report)?;
     hard(heap, &mut report)?;
     large(heap, &mut report)?;
@@ -73,6 +76,31 @@ fn small(heap: Global, report: &mut Report) -> Result<(), Error> {
             }
         }
         report.sized("at random, places", places)?;
+    }
+    Ok(())
+}
+
+/// The same games: each answer with one word changed.
+fn changed(heap: Global, report: &mut Report) -> Result<(), Error> {
+    report.head_of(
+        "answers with one word changed",
+        ["answers", "right", "wrong"],
+    )?;
+    let mut random = Random::new(2009);
+    for places in 1..9 {
+        for _ in 0..125 {
+            for weights in [2, 3, 5, 12, 256] {
+                report.try_changes(&families::at_random(
+                    heap,
+                    &mut random,
+                    places,
+                    1,
+                    3,
+                    weights,
+                )?)?;
+            }
+        }
+        report.changed_line("at random, places", places)?;
     }
     Ok(())
 }

@@ -1,5 +1,6 @@
 //! What the program prints.
-use crate::trial::{Desk, Tally, Wrong};
+use crate::tally::Tally;
+use crate::trial::{Desk, Wrong};
 use allplans::checker::Answer;
 use allplans::fault::Fault;
 use allplans::fine::FineGame;
@@ -17,6 +18,8 @@ pub enum Error {
     Disagreed(u32),
     /// So many answers with a winner changed were not refused.
     NotRefused(u32),
+    /// Of so many answers with a word changed not all ways say the same.
+    Disputed(u32),
 }
 
 impl From<Fault> for Error {
@@ -44,6 +47,7 @@ impl fmt::Display for Error {
             Error::Io(error) => write!(f, "{error}"),
             Error::Disagreed(games) => write!(f, "{games} games disagreed"),
             Error::NotRefused(answers) => write!(f, "{answers} spoilt answers were not refused"),
+            Error::Disputed(answers) => write!(f, "{answers} changed answers are disputed"),
         }
     }
 }
@@ -57,6 +61,8 @@ pub struct Report<'a> {
     tally: Tally,
     /// The games of all lines.
     total: Tally,
+    /// The answers with one word changed, of all lines.
+    changed: Tally,
 }
 
 impl<'a> Report<'a> {
@@ -67,13 +73,22 @@ impl<'a> Report<'a> {
             desk,
             tally: Tally::default(),
             total: Tally::default(),
+            changed: Tally::default(),
         })
     }
 
+    /// The head of a group of lines about games: their places, and who wins
+    /// them.
     pub fn head(&self, title: &str) -> Result<(), Error> {
+        self.head_of(title, ["places", "side 0", "side 1"])
+    }
+
+    /// The head of a group, with what its three columns count.
+    pub fn head_of(&self, title: &str, counted: [&str; 3]) -> Result<(), Error> {
+        let [first, second, third] = counted;
         println!(self.rt;
-            "{title:<32} {:>6} {:>7} {:>7} {:>7} {:>9}",
-            "games", "places", "side 0", "side 1", "disagreed"
+            "{title:<32} {:>6} {first:>7} {second:>7} {third:>7} {:>9}",
+            "games", "disagreed"
         )?;
         Ok(())
     }
@@ -105,6 +120,16 @@ impl<'a> Report<'a> {
         Ok(())
     }
 
+    /// Tries a game's answer with each word changed, and prints the game if the
+    /// ways to look at one of these disagree.
+    pub fn try_changes(&mut self, game: &FineGame) -> Result<(), Error> {
+        let game = &game.game;
+        if let Some(wrong) = self.desk.try_changes(game, &mut self.tally)? {
+            self.show(game, &wrong)?;
+        }
+        Ok(())
+    }
+
     fn show(&self, game: &Game, wrong: &Wrong) -> Result<(), Error> {
         let words = game.words(self.rt.alloc())?;
         println!(self.rt; "disagreed on {words:?}:")?;
@@ -114,18 +139,33 @@ impl<'a> Report<'a> {
 
     /// The line for the games since the last one.
     pub fn line(&mut self, name: &str) -> Result<(), Error> {
+        let tally = self.tell(name)?;
+        self.total = self.total.and(tally);
+        Ok(())
+    }
+
+    /// The line for the answers with one word changed since the last one.
+    pub fn changed_line(&mut self, name: &str, size: u32) -> Result<(), Error> {
+        let name = format!(in self.rt.alloc(); "{name} {size}")?;
+        let tally = self.tell(name.as_str())?;
+        self.changed = self.changed.and(tally);
+        Ok(())
+    }
+
+    /// Prints what was counted since the last line.
+    fn tell(&mut self, name: &str) -> Result<Tally, Error> {
+        let tally = self.tally;
         let Tally {
             games,
-            places,
-            even,
-            odd,
+            counts: [first, second, third],
             disagreed,
             ..
-        } = self.tally;
-        println!(self.rt; "{name:<32} {games:>6} {places:>7} {even:>7} {odd:>7} {disagreed:>9}")?;
-        self.total = self.total.and(self.tally);
+        } = tally;
+        println!(self.rt;
+            "{name:<32} {games:>6} {first:>7} {second:>7} {third:>7} {disagreed:>9}"
+        )?;
         self.tally = Tally::default();
-        Ok(())
+        Ok(tally)
     }
 
     /// The line for games of one size.
@@ -145,8 +185,14 @@ impl<'a> Report<'a> {
         } = self.total;
         println!(self.rt; "{games} games, {disagreed} disagreed")?;
         println!(self.rt; "{games} answers with one winner changed, {refused} refused")?;
+        let [answers, _, _] = self.changed.counts;
+        let disputed = self.changed.disagreed;
+        println!(self.rt; "{answers} answers with one word changed, {disputed} disagreed")?;
         if disagreed > 0 {
             return Err(Error::Disagreed(disagreed));
+        }
+        if disputed > 0 {
+            return Err(Error::Disputed(disputed));
         }
         if refused < games {
             Err(Error::NotRefused(games - refused))

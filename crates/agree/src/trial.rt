@@ -4,13 +4,15 @@ ghost use Rattle.allplans.specs.Checked.{RightAnswer};
 ghost use Rattle.allplans.specs.Claims.{plan, winners};
 
 use crate::answer::attractor;
+use crate::tally::Tally;
 use allplans::checker::{Answer, Claim, Refusal};
 use allplans::fault::Fault;
 use allplans::game::Game;
 use allplans::plans::Winner;
 use allplans::side::Side;
 use allplans::{checker, plans, reach};
-use endless::solve;
+use endless::verdict::Rejection;
+use endless::{check, solve};
 use std::alloc::Global;
 use std::fmt;
 
@@ -18,51 +20,16 @@ use std::fmt;
 /// or fewer places with more.
 const MOST_WORDS: usize = 1 + 16384 * 6;
 
-/// How many games were tried, and what came out.
-#[derive(Clone, Copy, Default)]
-pub struct Tally {
-    pub games: u32,
-    pub places: u32,
-    pub even: u32,
-    pub odd: u32,
-    pub disagreed: u32,
-    /// How many answers were refused after one winner in them was changed.
-    pub refused: u32,
-}
-
-impl Tally {
-    /// Counts the places of an answer, by who wins them.
-    fn count(&mut self, answer: &Answer) {
-        self.games = self.games.saturating_add(1);
-        for claim in answer.claims.iter() {
-            self.places = self.places.saturating_add(1);
-            match Side::try_from(claim.winner) {
-                Ok(Side::Even) => self.even = self.even.saturating_add(1),
-                Ok(Side::Odd) => self.odd = self.odd.saturating_add(1),
-                Err(_) => {}
-            }
-        }
-    }
-
-    /// What came out of both.
-    pub(crate) fn and(self, other: Tally) -> Tally {
-        Tally {
-            games: self.games.saturating_add(other.games),
-            places: self.places.saturating_add(other.places),
-            even: self.even.saturating_add(other.even),
-            odd: self.odd.saturating_add(other.odd),
-            disagreed: self.disagreed.saturating_add(other.disagreed),
-            refused: self.refused.saturating_add(other.refused),
-        }
-    }
-}
-
 /// What was found wrong.
 // In an `Option`, as no error: it is what is asked for here, and `?` passes on why it cannot be told.
 #[derive(Drop)]
 pub enum Wrong {
     /// The solver gave no answer.
     NoAnswer,
+    /// `check` does not say that the solver's answer is right.
+    Check(Rejection),
+    /// Not all ways say the same of the answer with another claim of a place.
+    Changed { place: usize, claim: Claim },
     /// The attractor of a place for a side is another.
     Attractor { target: u32, side: Side },
     /// All plans have another winner here.
@@ -75,6 +42,10 @@ impl fmt::Display for Wrong {
     fn fmt<W: fmt::Write>(&self, f: &mut fmt::Formatter<W>) -> fmt::Result {
         match self {
             Wrong::NoAnswer => write!(f, "no answer"),
+            Wrong::Check(rejection) => write!(f, "check says {rejection:?}"),
+            Wrong::Changed { place, claim } => {
+                write!(f, "looked at in turn with {claim:?} at place {place}")
+            }
             Wrong::Attractor { target, side } => {
                 write!(f, "another attractor of place {target} for side {side}")
             }
@@ -87,9 +58,9 @@ impl fmt::Display for Wrong {
 /// Memory for the solver, used again for each game.
 #[derive(Drop)]
 pub struct Desk {
-    heap: Global,
-    out: Vec<u32>,
-    work: Vec<u32>,
+    pub(crate) heap: Global,
+    pub(crate) out: Vec<u32>,
+    pub(crate) work: Vec<u32>,
 }
 
 impl Desk {
@@ -100,7 +71,7 @@ impl Desk {
     }
 
     /// Solves a game, counts it, and says what is wrong with the answer, if
-    /// `compare` finds anything.
+    /// `check` or `compare` finds anything.
     pub fn try_game<F: Fn(Global, &Game, &Answer) -> Result<Option<Wrong>, Fault>>(
         &mut self,
         game: &Game,
@@ -117,10 +88,15 @@ impl Desk {
         );
         let mut found = Answer::read(self.heap, self.answered(game.len()))?;
         tally.count(&found);
-        let wrong = if solved.is_ok() {
-            compare(self.heap, game, &found)?
-        } else {
-            Some(Wrong::NoAnswer)
+        let checked = check(
+            words.as_slice(),
+            self.out.as_slice(),
+            self.work.as_mut_slice(),
+        );
+        let wrong = match (solved, checked) {
+            (Err(_), _) => Some(Wrong::NoAnswer),
+            (Ok(()), Err(rejection)) => Some(Wrong::Check(rejection)),
+            (Ok(()), Ok(())) => compare(self.heap, game, &found)?,
         };
         if wrong.is_some() {
             tally.disagreed = tally.disagreed.saturating_add(1);
@@ -166,7 +142,7 @@ impl Desk {
     }
 
     /// The words of the answer for so many places.
-    fn answered(&self, places: usize) -> &[u32] {
+    pub(crate) fn answered(&self, places: usize) -> &[u32] {
         let out = self.out.as_slice();
         out.get(..places.saturating_mul(2)).unwrap_or(out)
     }

@@ -8,7 +8,7 @@ use std::slice;
 
 /// The most plans of a side that are tried: all, where a game has eight
 /// places with three moves each.
-const MOST_PLANS: u32 = 6561;
+pub(crate) const MOST_PLANS: u32 = 6561;
 
 /// Who wins a place.
 #[derive(Clone, Copy, PartialEq, Eq, Debug)]
@@ -62,7 +62,7 @@ fn won_by(heap: Global, game: &Game, side: Side) -> Result<Vec<bool>, Fault> {
 /// Counts on to the next plan of `side`: `choice` has, for each of its
 /// places, which of the moves is taken. `false` after the last plan.
 // No iterator over plans: one cannot lend what it changes.
-fn next_plan(game: &Game, side: Side, choice: &mut [usize]) -> bool {
+pub(crate) fn next_plan(game: &Game, side: Side, choice: &mut [usize]) -> bool {
     for (place, chosen) in game.places.iter().zip(choice.iter_mut()) {
         if place.is_of(side) {
             let last = place.moves.len().saturating_sub(1);
