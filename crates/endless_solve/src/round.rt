@@ -69,7 +69,7 @@ impl Search<'_> {
     /// Comes to the places that may follow this one. Whether the round is closed.
     fn look_from(&mut self, place: u32) -> Result<bool, AllocError> {
         let claimed = self.claimed;
-        if !claimed.has(place) {
+        if place >= claimed.places.len() {
             return Ok(false);
         }
         for to in claimed.places.moves(place) {
