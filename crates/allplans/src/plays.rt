@@ -18,9 +18,7 @@ pub fn is_right(heap: Global, game: &Game, answer: &Answer) -> Result<bool, Faul
         .claims
         .iter()
         .all(|claim| Side::try_from(claim.winner).is_ok());
-    Ok(is_given
-        && wins(heap, game, claimed, Side::Even)?
-        && wins(heap, game, claimed, Side::Odd)?)
+    Ok(is_given && wins(heap, game, claimed, Side::Even)? && wins(heap, game, claimed, Side::Odd)?)
 }
 
 /// Whether `side` wins from all places that are given to it, against all plans
@@ -55,8 +53,8 @@ struct Plays<'a> {
 impl Plays<'_> {
     /// Whether the side wins the play from each place that is given to it.
     fn are_won(self) -> bool {
-        (0..self.claimed.places.len())
-            .all(|place| !self.claimed.gives(place, self.side) || self.is_won(place))
+        (0..self.claimed.places.len()).all(|place| !self.claimed.gives(place, self.side)
+            || self.is_won(place))
     }
 
     /// Whether the play from `start` stays among the places of the side, and is

@@ -15,7 +15,11 @@ use std::io::Read;
 
 /// The bytes that a reader still has, up to one more than `most`, as text. Where
 /// as many stand there as can be told, it is want of memory.
-pub fn read_text_from<R: Read + Drop>(heap: Global, reader: R, most: usize) -> Result<String, Unread>
+pub fn read_text_from<R: Read + Drop>(
+    heap: Global,
+    reader: R,
+    most: usize,
+) -> Result<String, Unread>
     ensures text { IfOk result (λ s. IfSome (R.remaining reader) (λ bytes. string_bytes s ≡ take (most + 1) bytes)) }
     ensures wrong { IfErr result (λ e. IfSome (R.remaining reader) (λ bytes. TellsNoText (take (most + 1) bytes) e)) }
 {
@@ -134,7 +138,10 @@ mod tests {
     fn bytes_that_are_no_drawing_are_told(rt: HostRuntime) -> Result<(), Fail> {
         let heap = rt.alloc();
         let drawing = Form::Drawing;
-        assert_eq!(rt; unread(heap, b"a 0 1: a\xff", drawing)?.as_str(), "not UTF-8");
+        assert_eq!(rt;
+            unread(heap, b"a 0 1: a\xff", drawing)?.as_str(),
+            "not UTF-8"
+        );
         assert_eq!(rt;
             unread(heap, b"# one\r\na 0 256: a\r\n", drawing)?.as_str(),
             "line 2: the weight is not a number below 256\n  a 0 256: a"
@@ -185,7 +192,10 @@ mod tests {
     fn bytes_that_are_no_nodes_are_told(rt: HostRuntime) -> Result<(), Fail> {
         let heap = rt.alloc();
         let form = Form::Pgsolver;
-        assert_eq!(rt; unread(heap, b"0 0 0 0 \"\xff\";", form)?.as_str(), "not UTF-8");
+        assert_eq!(rt;
+            unread(heap, b"0 0 0 0 \"\xff\";", form)?.as_str(),
+            "not UTF-8"
+        );
         assert_eq!(rt;
             unread(heap, b"0 0 0 0;\n1 0 2 0;", form)?.as_str(),
             "line 2: the owner is neither 0 nor 1; write ID PRIORITY OWNER SUCC,SUCC,.. \"NAME\";\n  1 0 2 0;"

@@ -18,10 +18,7 @@ pub enum Unread {
     /// They are not UTF-8.
     NotText,
     /// They are no game in the form. `line` is the refused line as it is shown, if the refusal is about one.
-    Refused {
-        why: Refused,
-        line: Option<String>,
-    },
+    Refused { why: Refused, line: Option<String> },
     Memory,
 }
 
