@@ -3,3 +3,5 @@
 
 #[cfg(test)]
 mod answers;
+#[cfg(test)]
+mod games;
