@@ -43,6 +43,8 @@ pub struct Job {
     pub side: Option<Side>,
 }
 
+// No `Option<Job>`: its `None` would not say that help is asked for.
+/// What the program is to do.
 #[derive(Drop)]
 pub enum Request {
     Help,

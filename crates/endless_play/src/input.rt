@@ -11,6 +11,8 @@ const MOST_LINE: usize = 256;
 
 /// The game that stands in `file`: in the form that is asked for, or else in
 /// the one that the file's name tells.
+// In both programs that read what is named on the command line: each has its own
+// `Fault`, and reading itself stands in `forms`.
 pub(crate) fn source(rt: &HostRuntime, file: &str, form: Option<Form>) -> Result<Source, Fault> {
     let heap = rt.alloc();
     match read_path(rt, file, form.unwrap_or(Form::of_path(file))) {

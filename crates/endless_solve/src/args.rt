@@ -143,6 +143,8 @@ impl Options {
     }
 }
 
+// No `Option<Job>`: its `None` would not say that help is asked for.
+/// What the program is to do.
 #[derive(Drop)]
 pub enum Request {
     Help,

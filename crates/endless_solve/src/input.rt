@@ -5,6 +5,8 @@ use std::alloc::AllocError;
 
 /// The game that stands in `file`, or on standard input where that is `-`: in
 /// the form that is asked for, or else in the one that the file's name tells.
+// In both programs that read what is named on the command line: each has its own
+// `Fault`, and reading itself stands in `forms`.
 pub(crate) fn source(rt: &HostRuntime, file: &str, form: Option<Form>) -> Result<Source, Fault> {
     let heap = rt.alloc();
     match read(rt, file, form.unwrap_or(Form::of_path(file))) {
