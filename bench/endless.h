@@ -11,6 +11,9 @@ uint32_t endless_solve(const uint32_t *words, size_t words_len, uint32_t *out, s
 /* From where side 0, or side 1 where side is 1, can bring every play to the target: the same form of answer;
    4: the target is no place. */
 uint32_t endless_attract_to(const uint32_t *words, size_t words_len, uint32_t target, uint32_t side, uint32_t *out, size_t out_len, uint32_t *work, size_t work_len);
+/* In how many moves side 0, or side 1 where side is 1, can make sure that the play comes to the target: 0: done,
+   for each place that number, 2^32 - 1 where the side cannot, and a move; else as above. */
+uint32_t endless_distances_to(const uint32_t *words, size_t words_len, uint32_t target, uint32_t side, uint32_t *out, size_t out_len, uint32_t *work, size_t work_len);
 /* Whether an answer is one: 0 right; 1 wrong; 2 the words are no game; 3 work has fewer than 65536 + 4 * words_len words. */
 uint32_t endless_check(const uint32_t *words, size_t words_len, const uint32_t *answer, size_t answer_len, uint32_t *work, size_t work_len);
 #ifdef __cplusplus

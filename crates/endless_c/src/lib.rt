@@ -5,10 +5,13 @@ ghost use Rattle.std.specs.Prelude.{length, ◌≡◌, Result};
 ghost use Rattle.endless.specs.Promises.{SolvedPost};
 ghost use Rattle.endless.specs.Reaching.{ReachPost};
 ghost use Rattle.endless.specs.Checked.{CheckedPost};
+ghost use Rattle.endless.specs.Sides.{number as side-number};
 ghost use Rattle.endless.specs.declared.refusal.Refusal.{Refusal as Refused};
 ghost use Rattle.endless.specs.declared.verdict.Rejection.{Rejection as Rejected};
+ghost use Rattle.distance.specs.Distances.{DistancesPost};
 ghost use Rattle.endless_c.specs.Codes.{code, check_code, word_side};
 
+use distance::distances_to;
 use endless::answer::PlaceId;
 use endless::reach::attract_to;
 use endless::side::Side;
@@ -27,6 +30,13 @@ fn number(done: Result<(), Refusal>) -> u32
         Err(Refusal::Few) => 3,
         Err(Refusal::NoPlace) => 4,
     }
+}
+
+/// The side that a number of C's means: side 1 for 1, side 0 for any other.
+fn side_of_word(word: u32) -> Side
+    ensures { side-number result ≡ word_side word }
+{
+    if word == 1 { Side::Odd } else { Side::Even }
 }
 
 /// Solves a game: `uint32_t endless_solve(const uint32_t *words, size_t,
@@ -54,8 +64,26 @@ pub extern "C" fn endless_attract_to(
 ) -> u32
     ensures { (d : Result (Unit {0}) Refused) × (result ≡ code d) × ReachPost words.now (length work.old) (word_side side) target out.old out.new d }
 {
-    let side = if side == 1 { Side::Odd } else { Side::Even };
-    number(attract_to(words, PlaceId(target), side, out, work))
+    number(attract_to(words, PlaceId(target), side_of_word(side), out, work))
+}
+
+/// In how many moves a side (1, or 0 for any other number) can make sure that
+/// the play comes to a place: `uint32_t endless_distances_to(const uint32_t
+/// *words, size_t, uint32_t target, uint32_t side, uint32_t *out, size_t,
+/// uint32_t *work, size_t)` answers 0 done, 1 out full, 2 no game, 3 few, 4 no
+/// such place.
+#[unsafe(no_mangle)]
+pub extern "C" fn endless_distances_to(
+    words: &[u32],
+    target: u32,
+    // As in `endless_attract_to`.
+    side: u32,
+    out: &mut [u32],
+    work: &mut [u32],
+) -> u32
+    ensures { (d : Result (Unit {0}) Refused) × (result ≡ code d) × DistancesPost words.now (length work.old) (word_side side) target out.old out.new d }
+{
+    number(distances_to(words, PlaceId(target), side_of_word(side), out, work))
 }
 
 /// Whether an answer is one: `uint32_t endless_check(const uint32_t *words,
