@@ -190,6 +190,43 @@ void one_attractor() {
   }
 }
 
+// The least numbers of moves to a target, from the words to the answer: the library beside C++.
+void one_distance(const char *name, const Words &words, uint32_t target) {
+  const uint32_t n = words[0];
+  const size_t len = words.size(), moves = len - 1 - 3 * size_t(n);
+  std::vector<uint32_t> out[2], work(65536 + 4 * len);
+  for (auto &o : out) o.resize(2 * n);
+  Solver s;
+  s.reserve(n, moves);
+  auto filled = [](std::vector<uint32_t> &a) { std::memset(a.data(), 0x5a, 4 * a.size()); };
+  uint32_t said = 9, numbered = 0;
+  Timed t[2];
+  enum { library, cpp };
+  t[library].clear = [&] { filled(work), filled(out[library]); };
+  t[library].run = [&] { said = endless_distances_to(words.data(), len, target, 0, out[library].data(), out[library].size(), work.data(), work.size()); };
+  t[cpp].clear = [&] { s.fill(0x5a), filled(out[cpp]); };
+  t[cpp].run = [&] { s.graph.read(words.data(), len), numbered = s.distances(0, target, out[cpp].data()); };
+  for (auto &one : t) one.times = unsigned(std::clamp(10 / one.once(), 1.0, 100.0));
+  for (int sample = 0; sample < 5; sample++)
+    for (auto &one : t) one.sample();
+
+  std::string fault = said != 0 ? "refused" : "";
+  uint32_t greatest = 0;
+  for (uint32_t v = 0; v < n; v++) {
+    if (out[library][2 * v] != out[cpp][2 * v]) fault = "the numbers differ";
+    if (out[cpp][2 * v] != Solver::never) greatest = std::max(greatest, out[cpp][2 * v]);
+  }
+  for (int i = 0; i < 2 && fault.empty(); i++) fault = wrong_distances_in(words.data(), len, target, 0, out[i].data());
+  if (!fault.empty()) wrong++, std::printf("WRONG: %s: %s\n", name, fault.c_str());
+  std::printf("%-34s %6u %7zu %8u %8u %s %s %6.2f\n", name, n, moves, numbered, greatest, ms(t[library]).c_str(), ms(t[cpp]).c_str(), t[library].best / t[cpp].best);
+}
+
+void distances() {
+  std::printf("\nLeast numbers of moves to one place:\n%-34s %6s %7s %8s %8s %14s %14s %6s\n", "", "places", "moves", "numbered", "greatest", "endless    ", "C++    ", "ratio");
+  one_distance("random, 3 moves", random_game(16384, 3, 8, 1), 0);
+  for (uint32_t n : {4096, 8192, 16384}) one_distance("a place with all moves", star(n), 1);
+}
+
 // n - 1 places of weight 1 in a row, the last of which goes to a place of weight 0 that stays.
 Words chain_to_loop(uint32_t n) {
   Words words{n};
@@ -281,6 +318,7 @@ int main(int argc, char **argv) {
   if (std::isfinite(random)) tell(cluster.value / random, cluster, "times the random game of 3 moves and 256 weights, on clusters with 256 weights");
   tell(slowest.value, slowest, "ms at most, but for recursive ladders of more than 100 places");
   one_attractor();
+  distances();
   checks();
   std::printf("%d wrong answers\n", wrong);
   return wrong != 0;

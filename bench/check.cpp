@@ -7,6 +7,27 @@ namespace {
 
 using Lists = std::vector<std::vector<uint32_t>>;
 
+struct Read {
+  uint32_t n;
+  std::vector<uint32_t> whose, weight;
+  Lists moves;
+  bool is_game;  // whether the words end behind the last place
+};
+
+Read read(const uint32_t *words, size_t words_len) {
+  const uint32_t n = words[0];
+  Read g{n, std::vector<uint32_t>(n), std::vector<uint32_t>(n), Lists(n), false};
+  size_t at = 1;
+  for (uint32_t v = 0; v < n; v++) {
+    g.whose[v] = words[at];
+    g.weight[v] = words[at + 1];
+    g.moves[v].assign(words + at + 3, words + at + 3 + words[at + 2]);
+    at += 3 + words[at + 2];
+  }
+  g.is_game = at == words_len;
+  return g;
+}
+
 // A place of weight `k` on a round through places of weight at most `k`, or -1: it lies in a strongly
 // connected part (Tarjan, without recursion) that has more than one place or a move to itself.
 int64_t on_a_round(const Lists &moves, const std::vector<uint32_t> &weight, uint32_t k) {
@@ -49,17 +70,8 @@ int64_t on_a_round(const Lists &moves, const std::vector<uint32_t> &weight, uint
 }  // namespace
 
 std::string wrong_in(const uint32_t *words, size_t words_len, const uint32_t *out) {
-  const uint32_t n = words[0];
-  std::vector<uint32_t> whose(n), weight(n);
-  Lists moves(n);
-  size_t at = 1;
-  for (uint32_t v = 0; v < n; v++) {
-    whose[v] = words[at];
-    weight[v] = words[at + 1];
-    moves[v].assign(words + at + 3, words + at + 3 + words[at + 2]);
-    at += 3 + words[at + 2];
-  }
-  if (at != words_len) return "these words are no game";
+  auto [n, whose, weight, moves, is_game] = read(words, words_len);
+  if (!is_game) return "these words are no game";
 
   // each side stays where it wins: by its plan, and whatever the other side does
   for (uint32_t v = 0; v < n; v++) {
@@ -86,6 +98,26 @@ std::string wrong_in(const uint32_t *words, size_t words_len, const uint32_t *ou
       if (v >= 0)
         return "place " + std::to_string(v) + ": side " + std::to_string(side) + " is given a round with heaviest weight " + std::to_string(k);
     }
+  }
+  return "";
+}
+
+std::string wrong_distances_in(const uint32_t *words, size_t words_len, uint32_t target, uint32_t side, const uint32_t *out) {
+  const Read g = read(words, words_len);
+  if (!g.is_game) return "these words are no game";
+  const uint32_t never = UINT32_MAX;
+  for (uint32_t v = 0; v < g.n; v++) {
+    const uint32_t number = out[2 * v], go = out[2 * v + 1];
+    const bool own = g.whose[v] == side;
+    uint32_t least = never, greatest = 0;
+    for (uint32_t m : g.moves[v]) {
+      least = std::min(least, out[2 * m]);
+      greatest = std::max(greatest, out[2 * m]);
+    }
+    const uint32_t far = own ? least : greatest, should = v == target ? 0 : far == never ? never : far + 1;
+    if (number != should) return "place " + std::to_string(v) + " has the number " + std::to_string(number) + ", should be " + std::to_string(should);
+    if (std::count(g.moves[v].begin(), g.moves[v].end(), go) == 0) return "place " + std::to_string(v) + ": the plan is no move";
+    if (own && number != never && v != target && out[2 * go] + 1 != number) return "place " + std::to_string(v) + ": the move leads on to no place with one less";
   }
   return "";
 }

@@ -263,3 +263,33 @@ uint32_t Solver::attractor(uint32_t side, uint32_t target, uint32_t *out) {
   state[target] -= 2;
   return attract(side, 1, 1);
 }
+
+// The queue in order. state counts the moves that a place still waits for: one at a place of `side`, all at
+// one of the other's, none at the target. A count goes on below zero and does not come to zero again, so
+// that a place is taken once. No branches but for the loops, as in `attract`.
+uint32_t Solver::distances(uint32_t side, uint32_t target, uint32_t *out) {
+  uint32_t *awaited = state.data(), *q = queue.data(), *through = via.data();
+  for (uint32_t v = 0; v < graph.n; v++) {
+    awaited[v] = graph.whose[v] == side ? 1 : graph.end(v) - graph.first[v];
+    out[2 * v] = never;
+    out[2 * v + 1] = graph.words[graph.first[v]];
+  }
+  awaited[target] = 0;
+  out[2 * target] = 0;
+  q[0] = target;
+  uint32_t tail = 1;
+  for (uint32_t head = 0; head < tail; head++) {
+    const uint32_t u = q[head];
+    for (uint32_t i = graph.pred_at[u], end = graph.pred_at[u + 1]; i < end; i++) {
+      const uint32_t v = graph.pred[i];
+      q[tail] = v;
+      through[tail] = u;
+      tail += --awaited[v] == 0;
+    }
+  }
+  for (uint32_t i = 1; i < tail; i++) {
+    out[2 * q[i]] = out[2 * through[i]] + 1;
+    out[2 * q[i] + 1] = through[i];
+  }
+  return tail;
+}

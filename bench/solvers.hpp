@@ -33,6 +33,10 @@ class Solver {
   End solve_closed(const uint32_t *words, size_t len, uint32_t *out, uint64_t budget = UINT64_MAX);
   // Takes the attractor for a side of one place in the game that graph.read has read; says how many places.
   uint32_t attractor(uint32_t side, uint32_t target, uint32_t *out);
+  // The least number of moves in which a side can make sure of the target, `never` where it cannot, and a
+  // move, for each place of that game; says how many places have a number.
+  static constexpr uint32_t never = UINT32_MAX;
+  uint32_t distances(uint32_t side, uint32_t target, uint32_t *out);
   // When what is at hand is split into strongly connected parts: if it has more than `small` places, from
   // `first` times n steps on, and after one where nearly all was one part not before `wait` times its size
   // steps more. {0, 0, 0} splits always.

@@ -1,5 +1,6 @@
-// Are the C++ solvers and the checker right? Tiny games against all plans of both sides; then larger
-// ones, where both solvers must find the same winners and pass the checker.
+// Are the C++ solvers and the checkers right? Tiny games against all plans of both sides, and numbers of
+// moves against those found layer by layer; then larger ones, where both solvers must find the same
+// winners and pass the checker.
 #include <cstdio>
 #include <string>
 #include <vector>
@@ -75,6 +76,35 @@ bool right(const Made &g, const std::vector<uint32_t> &sides, const Plan &out) {
   return true;
 }
 
+// The least number of moves in which a side can make sure of the target, layer by layer: from where within one, within two, ..
+std::vector<uint32_t> numbers(const Made &g, uint32_t side, uint32_t target) {
+  const uint32_t n = uint32_t(g.places.size());
+  std::vector<uint32_t> number(n, Solver::never);
+  number[target] = 0;
+  for (uint32_t k = 1; k < n; k++)
+    for (uint32_t v = 0; v < n; v++) {
+      bool some = false, all = true;
+      for (uint32_t m : g.places[v].moves) {
+        some |= number[m] < k;
+        all &= number[m] < k;
+      }
+      if (number[v] == Solver::never && (g.places[v].whose == side ? some : all)) number[v] = k;
+    }
+  return number;
+}
+
+// Is this answer right: the numbers are, each plan is of moves, and those of the side's places with numbers lead on to one less.
+bool right(const Made &g, uint32_t side, const std::vector<uint32_t> &number, const Plan &out) {
+  for (uint32_t v = 0; v < g.places.size(); v++) {
+    const uint32_t go = out[2 * v + 1];
+    bool is_move = false;
+    for (uint32_t m : g.places[v].moves) is_move |= m == go;
+    if (out[2 * v] != number[v] || !is_move) return false;
+    if (g.places[v].whose == side && number[v] != 0 && number[v] != Solver::never && number[go] + 1 != number[v]) return false;
+  }
+  return true;
+}
+
 int wrong = 0;
 void expect(bool ok, const char *what, unsigned game) {
   if (ok) return;
@@ -118,8 +148,21 @@ int main() {
       expect(ok == right(g, sides, other), "the checker is wrong", games);
       ok ? accepted++ : refused++;
     }
+    // the numbers of moves to a place, and their checker
+    const uint32_t side = r.below(2), target = r.below(n);
+    const auto number = numbers(g, side, target);
+    solver.graph.read(words.data(), words.size());
+    solver.distances(side, target, out.data());
+    expect(right(g, side, number, out), "the numbers are wrong", games);
+    for (uint32_t k = 0; k < 4; k++) {
+      auto other = out;
+      for (uint32_t i = r.below(3); i > 0; i--) other[r.below(2 * n)] = r.below(4) ? r.below(n + 1) : Solver::never;
+      const bool ok = wrong_distances_in(words.data(), words.size(), target, side, other.data()).empty();
+      expect(ok == right(g, side, number, other), "the checker of numbers is wrong", games);
+      ok ? accepted++ : refused++;
+    }
   }
-  std::printf("%u games of 1 to 7 places, %u places: both solvers against all plans; the checker on %u right and %u wrong answers more\n", games, places, accepted, refused);
+  std::printf("%u games of 1 to 7 places, %u places: both solvers against all plans, and numbers of moves layer by layer; the checkers on %u right and %u wrong answers more\n", games, places, accepted, refused);
 
   games = places = 0;
   for (uint32_t i = 0; i < 2000; i++) {
