@@ -1,4 +1,4 @@
-// The boundary of endless_solve under many lists of words, most of them no games.
+// The boundary of endless_solve and endless_distances_to under many lists of words, most of them no games.
 //   fuzz [COUNT [SEED]]
 // Each slice ends where a page begins that may not be touched.
 #include <signal.h>
@@ -17,9 +17,10 @@
 
 namespace {
 
-enum { done, out_full, no_game, few };
-const char *const names[] = {"done", "out full", "no game", "few"};
+enum { done, out_full, no_game, few, no_place };
+const char *const names[] = {"done", "out full", "no game", "few", "no place"};
 const uint32_t longest = 64;
+const size_t most_out = 4 * longest, most_work = 65536 + 4 * longest + 1;
 
 // How many places has this game? 0: it is no game. As the format says it, and nothing else.
 uint32_t places_of(const Words &w) {
@@ -96,19 +97,46 @@ void fault(int) {
   _exit(2);
 }
 
+// The slices that are lent, all of which end where a page begins that may not be touched.
+struct Lent {
+  Fenced words{longest}, out{most_out}, work{most_work};
+};
+
+// What is wrong with a call on these words that should answer `should`; "" where nothing is. It is called
+// with words, out and work, and `check` looks at what stands in out if the words are a game of n places and it is done.
+template <class Call, class Check>
+std::string wrong_with(const Words &w, uint32_t n, size_t out_len, size_t work_len, unsigned should, const Lent &lent, Random &r, Call call, Check check) {
+  uint32_t *words = lent.words.end - w.size(), *out = lent.out.end - out_len, *work = lent.work.end - work_len;
+  if (!w.empty()) std::memcpy(words, w.data(), 4 * w.size());
+  for (size_t k = 0; k < most_out; k++) lent.out.end[-ptrdiff_t(k) - 1] = uint32_t(r.next());
+  const std::vector<uint32_t> before(lent.out.end - most_out, lent.out.end);  // also what stands before out
+
+  const uint32_t said = call(words, out, work);
+
+  if (said != should) return "answered " + std::to_string(said) + ", should be " + names[should];
+  const uint32_t *old = before.data() + most_out - out_len;
+  for (size_t k = said == done ? 2 * size_t(n) : 0; k < out_len; k++)
+    if (out[k] != old[k]) return "word " + std::to_string(k) + " of out was written";
+  if (std::memcmp(before.data(), lent.out.end - most_out, 4 * (most_out - out_len)) != 0) return "words before out were written";
+  if (!w.empty() && std::memcmp(words, w.data(), 4 * w.size()) != 0) return "the words were written";
+  return said == done ? check(out) : "";
+}
+
 }  // namespace
 
 int main(int argc, char **argv) {
   const unsigned long count = argc > 1 ? std::strtoul(argv[1], nullptr, 10) : 1'000'000;
-  Random r(argc > 2 ? std::strtoull(argv[2], nullptr, 10) : 1);
+  const uint64_t seed = argc > 2 ? std::strtoull(argv[2], nullptr, 10) : 1;
+  Random r(seed), chosen(~seed);  // the lists; targets and sides
   signal(SIGSEGV, fault);
   signal(SIGBUS, fault);
-  const size_t most_out = 4 * longest, most_work = 65536 + 4 * longest + 1;
-  Fenced words_end(longest), out_end(most_out), work_end(most_work);
-  for (size_t i = 1; i <= most_work; i++) work_end.end[-ptrdiff_t(i)] = uint32_t(r.next());
+  const Lent lent;
+  for (size_t i = 1; i <= most_work; i++) lent.work.end[-ptrdiff_t(i)] = uint32_t(r.next());
 
+  enum { solve, distances };
+  static const char *const calls[] = {"solve", "distances_to"};
   static const char *const kinds[] = {"valid", "one word changed", "at random"};
-  unsigned long answers[3][4] = {}, wrong = 0, games[3] = {};
+  unsigned long answers[2][3][5] = {}, wrong = 0, games[3] = {};
   for (unsigned long i = 0; i < count; i++) {
     current = i;
     const unsigned kind = i % 3;
@@ -121,34 +149,37 @@ int main(int argc, char **argv) {
     const size_t work_len = need_work - 1 + i / 3 % 3;
     const unsigned which = unsigned(i / 9 % 3);
     const size_t out_len = which == 0 ? need_out : which == 1 ? need_out - (need_out > 0) : need_out + 1 + r.below(8);
-    const unsigned should = work_len < need_work ? few : n == 0 ? no_game : out_len < 2 * size_t(n) ? out_full : done;
+    // a place, the first number that is none, or any word; side 0 or 1, or any word, which means side 0
+    const uint32_t target = chosen.below(4) ? chosen.below(n + 1) : any_word(chosen), word = chosen.below(4) ? chosen.below(2) : any_word(chosen), side = word == 1;
 
-    uint32_t *words = words_end.end - w.size(), *out = out_end.end - out_len, *work = work_end.end - work_len;
-    if (!w.empty()) std::memcpy(words, w.data(), 4 * w.size());
-    for (size_t k = 0; k < most_out; k++) out_end.end[-ptrdiff_t(k) - 1] = uint32_t(r.next());
-    const std::vector<uint32_t> before(out_end.end - most_out, out_end.end);  // also what stands before out
-
-    const uint32_t said = endless_solve(words, w.size(), out, out_len, work, work_len);
-
-    std::string bad;
-    if (said != should) bad = "answered " + std::to_string(said) + ", should be " + names[should];
-    const uint32_t *old = before.data() + most_out - out_len;
-    for (size_t k = said == done ? 2 * size_t(n) : 0; bad.empty() && k < out_len; k++)
-      if (out[k] != old[k]) bad = "word " + std::to_string(k) + " of out was written";
-    if (bad.empty() && std::memcmp(before.data(), out_end.end - most_out, 4 * (most_out - out_len)) != 0) bad = "words before out were written";
-    if (bad.empty() && !w.empty() && std::memcmp(words, w.data(), 4 * w.size()) != 0) bad = "the words were written";
-    if (bad.empty() && said == done) bad = wrong_in(w.data(), w.size(), out);
-    answers[kind][should]++;
-    if (bad.empty()) continue;
-    if (wrong++ < 20) {
-      std::printf("list %lu (%s), out %zu, work %zu: %s:", i, kinds[kind], out_len, work_len, bad.c_str());
+    std::string bad[2];
+    unsigned should[2];
+    should[solve] = work_len < need_work ? few : n == 0 ? no_game : out_len < 2 * size_t(n) ? out_full : done;
+    should[distances] = should[solve];
+    if (should[solve] != few && n > 0 && target >= n) should[distances] = no_place;
+    bad[solve] = wrong_with(
+        w, n, out_len, work_len, should[solve], lent, r,
+        [&](const uint32_t *words, uint32_t *out, uint32_t *work) { return endless_solve(words, w.size(), out, out_len, work, work_len); },
+        [&](const uint32_t *out) { return wrong_in(w.data(), w.size(), out); });
+    bad[distances] = wrong_with(
+        w, n, out_len, work_len, should[distances], lent, chosen,
+        [&](const uint32_t *words, uint32_t *out, uint32_t *work) { return endless_distances_to(words, w.size(), target, word, out, out_len, work, work_len); },
+        [&](const uint32_t *out) { return wrong_distances_in(w.data(), w.size(), target, side, out); });
+    for (unsigned call : {solve, distances}) {
+      answers[call][kind][should[call]]++;
+      if (bad[call].empty() || wrong++ >= 20) continue;
+      std::printf("list %lu (%s), %s, target %u, side %u, out %zu, work %zu: %s:", i, kinds[kind], calls[call], target, word, out_len, work_len, bad[call].c_str());
       for (uint32_t x : w) std::printf(" %u", x);
       std::printf("\n");
     }
   }
-  std::printf("%-18s %9s %9s %9s %9s %9s\n", "lists of words", "games", names[0], names[1], names[2], names[3]);
-  for (int k = 0; k < 3; k++)
-    std::printf("%-18s %9lu %9lu %9lu %9lu %9lu\n", kinds[k], games[k], answers[k][0], answers[k][1], answers[k][2], answers[k][3]);
+  std::printf("%-31s %9s %9s %9s %9s %9s %9s\n", "lists of words", "games", names[0], names[1], names[2], names[3], names[4]);
+  for (unsigned call : {solve, distances})
+    for (int k = 0; k < 3; k++) {
+      std::printf("%-12s %-18s %9lu", calls[call], kinds[k], games[k]);
+      for (unsigned long number : answers[call][k]) std::printf(" %9lu", number);
+      std::printf("\n");
+    }
   std::printf("%lu lists, %lu wrong\n", count, wrong);
   return wrong != 0;
 }
