@@ -1,7 +1,7 @@
 -- What is told is noted one by one, and in the end makes the words of the answer.
-use Rattle.std.proofs.Common.{◌≡◌, ℕ, zero, suc, ◌*◌, ◌<◌, List, [], ◌∷◌, ◌++◌, true, false, length, get_or, set, replicate, slice_get, is_none, Some, None, Err, Option, ◌⊎◌, inl, inr, sym, refl, ap, ◌∙◌, subst, ⊎_elim, arith}
+use Rattle.std.proofs.Common.{◌≡◌, ℕ, zero, suc, ◌*◌, ◌<◌, List, [], ◌∷◌, ◌++◌, true, false, length, get_or, set, slice_get, is_none, Some, None, Err, Option, ◌⊎◌, inl, inr, sym, refl, ap, ◌∙◌, subst, ⊎_elim, arith}
 use Rattle.std.specs.Option.{unwrap_or}
-use Rattle.std.proofs.lemmas.List.{length-set, length-replicate}
+use Rattle.std.proofs.lemmas.List.{length-set}
 use Rattle.std.proofs.lemmas.Bool.{cases_eq}
 use Rattle.std.proofs.lemmas.Option.{same_Some, slice_get_within, slice_get-get_or}
 use Rattle.endless.specs.Sides.{number}
@@ -21,11 +21,6 @@ is_none-true (Some x) e = cc
 is_none-false : {A : Type 0} (o : Option A) → is_none o ≡ false → (x : A) × (o ≡ Some x)
 is_none-false None e = cc
 is_none-false (Some x) e = (x, refl)
-
-get_replicate : {A : Type 0} (n i : ℕ) (a x : A) → slice_get (replicate n a) i ≡ Some x → x ≡ a
-get_replicate zero i a x h = absurd (no_some h)
-get_replicate (suc n) zero a x h = sym (same_Some a x h)
-get_replicate (suc n) (suc i) a x h = get_replicate n i a x h
 
 get_set_same : {A : Type 0} (xs : List A) (i : ℕ) (a x : A) → slice_get xs i ≡ Some x → slice_get (set xs i a) i ≡ Some a
 get_set_same [] i a x h = absurd (no_some h)
@@ -54,13 +49,6 @@ get_push_cases [] a x zero h = inr (refl, sym (same_Some a x h))
 get_push_cases [] a x (suc j) h = absurd (no_some h)
 get_push_cases (y ∷ ys) a x zero h = inl h
 get_push_cases (y ∷ ys) a x (suc j) h = ⊎_elim (λ e. inl e) (λ e. inr (ap suc e.0, e.1)) (get_push_cases ys a x j h)
-
-pub tabled_none : {K : Type 0} (names : List K) (claims : List (Option Claim)) → claims ≡ replicate (length names) None → Tabled names [] claims
-tabled_none names claims e = record {
-  many = ap length e ∙ length-replicate (length names) None;
-  told = λ j t h. absurd (no_some h);
-  only = λ i c x h k. absurd (no_some (sym (get_replicate (length names) i None (Some c) (ap (λ l. slice_get l i) (sym e) ∙ h))));
-}
 
 module _ {K : Type 0} (names : List K) (ts : List (Told K)) (claims : List (Option Claim)) (s : Tabled names ts claims) (differ : Differ names) where
   inside : (i : ℕ) (x : K) → slice_get names i ≡ Some x → slice_get claims i ≡ Some (get_or claims i None)

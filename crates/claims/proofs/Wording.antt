@@ -13,9 +13,6 @@ pub record WordedTo (claims : List (Option Claim)) (words : List ℕ) (n : ℕ) 
   pub many : length words ≡ 2 * n
   pub each : (i : ℕ) (o : Option Claim) → i < n → slice_get claims i ≡ Some o → (c : Claim) × (o ≡ Some c) × Words words i c
 
-pub worded_none : (claims : List (Option Claim)) (words : List ℕ) → words ≡ [] → WordedTo claims words 0
-worded_none claims words e = record { many = ap length e; each = λ i o l h. absurd (omega arith) }
-
 pub worded_all : (claims : List (Option Claim)) (words : List ℕ) (n : ℕ) → n ≡ length claims → WordedTo claims words n → Worded claims words
 worded_all claims words n e w = record {
   many = w.many ∙ ap (λ k. 2 * k) e;

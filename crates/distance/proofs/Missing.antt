@@ -4,7 +4,7 @@ use Rattle.std.proofs.lemmas.Bool.{cases_eq, cases_Bool, eq-eqb, ne_eqb}
 use Rattle.endless.specs.Games.{Among, first, later}
 use Rattle.endless.specs.Sets.{Set, In}
 use Rattle.endless.specs.Graph.{times}
-use Rattle.endless.proofs.CountLaws.{one_if}
+use Rattle.endless.proofs.CountLaws.{one_itself, one_other}
 use Rattle.distance.specs.Spreading.{missing}
 
 abbrev none_if : Bool → ℕ
@@ -27,14 +27,12 @@ missing_less P to (m ∷ ms) e = go (missing_less P to ms e) (cases_eq m to)
   where
     go : missing (together P to) ms + times to ms ≡ missing P ms → (m ≡ to) ⊎ (m ≡ to → ⊥) → missing (together P to) (m ∷ ms) + times to (m ∷ ms) ≡ missing P (m ∷ ms)
     go ih (inl d) =
-        let a : one_if (eqb m to) ≡ 1 = ap one_if (eq-eqb m to d) in
         let b : none_if (together P to m) ≡ 0 = ap (λ (x : Bool). none_if (x || P m)) (eq-eqb m to d) in
         let c : none_if (P m) ≡ 1 = ap none_if (ap P d ∙ e) in
-        omega arith
+        omega (arith, one_itself m to d)
     go ih (inr d) =
-        let a : one_if (eqb m to) ≡ 0 = ap one_if (ne_eqb m to d) in
         let b : none_if (together P to m) ≡ none_if (P m) = ap (λ (x : Bool). none_if (x || P m)) (ne_eqb m to d) in
-        omega arith
+        omega (arith, one_other m to d)
 
 pub missing_none : (P : Set) (ms : List ℕ) → missing P ms ≡ 0 → (m : ℕ) → Among m ms → In P m
 missing_none P [] e m a = elim a [ ]

@@ -7,9 +7,6 @@ use Rattle.distance.specs.declared.spread.Spreading.{Spreading}
 use Rattle.distance.proofs.Looking.{look_all}
 use Rattle.distance.proofs.Spreads.{spread_last}
 
-pub same_now : (a : Spreading) → Same a a
-same_now a = record { graph = refl; side = refl; out = refl; queue = refl; awaited = refl }
-
 pub same_then : {a b c : Spreading} → Same a b → Same b c → Same a c
 same_then same then = record { graph = then.graph ∙ same.graph; side = then.side ∙ same.side; out = then.out ∙ same.out; queue = then.queue ∙ same.queue; awaited = then.awaited ∙ same.awaited }
 
@@ -26,9 +23,6 @@ pub record Pulled (target : ℕ) (before : List ℕ) (head to next i filled : �
 pub record Pulling (a : Spreading) (to next i : ℕ) (b : Spreading) : Type 0 where
   pub same : Same a b
   pub pulled : (target : ℕ) (before : List ℕ) (head : ℕ) → head < a.tail → get_or a.queue.now head 0 ≡ to → Going a target before head [] → Pulled target before head to next i a.tail b
-
-pub pulling_none : (a : Spreading) (to next : ℕ) → next ≡ number a.out.now to + 1 → Pulling a to next 0 a
-pulling_none a to next is = record { same = same_now a; pulled = λ target before head h e st. record { going = st; within = omega arith; head_is = e; next_is = is } }
 
 -- what is looked at next
 pub pulled_looks : {target : ℕ} {before : List ℕ} {head to next i filled : ℕ} {b : Spreading} {r : List ℕ} → r ≡ sources 0 b.graph.now to → head < filled → i < length r → Pulled target before head to next i filled b → Looks b.graph.now to next (get_or r i 0) head i b.queue.now b.out.now b.tail
@@ -70,9 +64,6 @@ module _ {a b : Spreading} {to next i : ℕ} (k : Pulling a to next i b) {r : Li
 pub record Advancing (a : Spreading) (head : ℕ) (b : Spreading) : Type 0 where
   pub same : Same a b
   pub going : (target : ℕ) (before : List ℕ) → Going a target before 0 [] → Going b target before head []
-
-pub advancing_none : (a : Spreading) → Advancing a 0 a
-advancing_none a = record { same = same_now a; going = λ target before st. st }
 
 module _ {a b : Spreading} {head : ℕ} (k : Advancing a head b) where
   -- no more places come into the queue than there are

@@ -9,7 +9,7 @@ use Rattle.endless.specs.Graph.{moves, times}
 use Rattle.endless.specs.Pulling.{Passed, Unchanged}
 use Rattle.endless.proofs.Places.{ok_size, some_moves, to_place}
 use Rattle.endless.proofs.Pigeonhole.{pigeonhole}
-use Rattle.endless.proofs.CountLaws.{one_if}
+use Rattle.endless.proofs.CountLaws.{one_if, one_itself, one_other}
 use Rattle.endless.proofs.Sources.{among_times}
 use Rattle.endless.proofs.Working.{goes_at, unchanged_goes}
 use Rattle.distance.specs.Sooner.{never}
@@ -208,10 +208,10 @@ module _ {s : List ℕ} {g : Game} (reads : Reads s g) {w target : ℕ} {before 
 
   module _ {from : ℕ} (seen' : List ℕ) (here : from < length g) (inside : head < tail) (more : (n : ℕ) → times n seen' ≡ times n seen + one_if (eqb from n)) where
     seen_else : (n : ℕ) → (n ≡ from → ⊥) → times n seen' ≡ times n seen
-    seen_else n d = let z : one_if (eqb from n) ≡ 0 = ap one_if (ne_eqb from n (λ e. d (sym e))) in omega (arith, more n)
+    seen_else n d = omega (arith, more n, one_other from n (λ e. d (sym e)))
 
     seen_here : times from seen' ≡ times from seen + 1
-    seen_here = let z : one_if (eqb from from) ≡ 1 = ap one_if (eq-eqb from from refl) in omega (arith, more from)
+    seen_here = omega (arith, more from, one_itself from from refl)
 
     -- it has a number
     pub spread_stays : (number out from ≡ never → ⊥) → Spread g w target before head seen' out queue awaited tail

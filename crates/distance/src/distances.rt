@@ -31,11 +31,9 @@ pub fn distances_to(
     ensures { DistancesPost words.now (length work.old) (side-number side) target.0 out.old out.new result }
 {
     let accepted = layout::accept(words, work)?;
-    if target.0 >= accepted.game.len() {
-        return Err(Refusal::NoPlace);
-    }
+    let target = accepted.index(target)?;
     layout::out_room(accepted.game.len(), out.len())?;
-    measure(accepted, side, target.0, out);
+    measure(accepted, side, target, out);
     Ok(())
 }
 

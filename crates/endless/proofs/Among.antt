@@ -11,3 +11,11 @@ pub at_among : (l : List ℕ) (k : ℕ) → k < length l → Among (get_or l k 0
 at_among [] k h = absurd (omega arith)
 at_among (x ∷ xs) zero h = first
 at_among (x ∷ xs) (suc k) h = later (at_among xs k (omega arith))
+
+pub none_among : (m : ℕ) (l : List ℕ) → l ≡ [] → Among m l → ⊥
+none_among m [] e a = elim a [ ]
+none_among m (x ∷ xs) e a = let z : ◌≡◌ {A = ℕ} 0 1 = cc in omega arith
+
+pub only_among : (m x : ℕ) → Among m (x ∷ []) → m ≡ x
+only_among m x first = refl
+only_among m x (later a) = elim a [ ]

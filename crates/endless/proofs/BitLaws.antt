@@ -6,7 +6,7 @@ use lib.Bits.{bit_and, bit_or, and_step, or_step}
 use lib.Count.{count_trailing_zeros, under}
 use lib.Count.{ones, ones_step}
 use Rattle.std.proofs.lemmas.Nat.{shr-shr, and_shr, or_shr, mod-mul-add, div_below, pow_pos}
-use Rattle.std.proofs.lemmas.Bool.{lt-ltb, both_ways}
+use Rattle.std.proofs.lemmas.Bool.{lt-ltb}
 use Rattle.endless.specs.Bits.{digit, count}
 use Rattle.endless.proofs.CountLaws.{count_zero, count_front, count_same}
 
@@ -157,21 +157,3 @@ trailing_lt (suc n) w h p = go (w % 2) refl (trailing_lt n (w / 2) (omega (arith
     go : (d : ℕ) → w % 2 ≡ d → (0 < w / 2 → count_trailing_zeros n (w / 2) < n) → under d (count_trailing_zeros n (w / 2)) < suc n
     go zero e rest = let k : count_trailing_zeros n (w / 2) < n = rest (omega arith) in omega arith
     go (suc d) e rest = omega arith
-
--- words of n bits with the same bits are the same
-low_same : (x y : ℕ) → x < 2 → y < 2 → eqb x 1 ≡ eqb y 1 → x ≡ y
-low_same zero zero h k e = refl
-low_same zero (suc zero) h k e = absurd (both_ways false refl e)
-low_same (suc zero) zero h k e = absurd (both_ways false refl (sym e))
-low_same (suc zero) (suc zero) h k e = refl
-low_same zero (suc (suc y)) h k e = absurd (omega arith)
-low_same (suc zero) (suc (suc y)) h k e = absurd (omega arith)
-low_same (suc (suc x)) y h k e = absurd (omega arith)
-
-pub digits_same : (n w v : ℕ) → w < 2 ^ n → v < 2 ^ n → ((k : ℕ) → k < n → digit w k ≡ digit v k) → w ≡ v
-digits_same zero w v h k same = omega arith
-digits_same (suc n) w v h k same =
-    let low : w % 2 ≡ v % 2 = low_same (w % 2) (v % 2) (omega arith) (omega arith) (sym (digit_zero w) ∙ same 0 (omega arith) ∙ digit_zero v) in
-    let high : w / 2 ≡ v / 2 = digits_same n (w / 2) (v / 2) (omega (arith, pow-suc 2 n)) (omega (arith, pow-suc 2 n))
-    (λ j l. sym (digit_suc w j) ∙ same (suc j) (omega arith) ∙ digit_suc v j) in
-    omega arith

@@ -1,20 +1,16 @@
 -- The worked example: a game of three places, an answer whose plans win, and one whose do not.
 use Rattle.std.proofs.Common.{◌≡◌, ℕ, zero, suc, ◌%◌, ◌<◌, ◌≤◌, T, eqb, ltb, ◌⊎◌, List, [], ◌∷◌, sym, refl, subst, inl, inr, suc-ne-zero, arith, eqb→eq, ltb→lt}
 use Rattle.std.proofs.lemmas.Bool.{cases_eq}
-use Rattle.endless.specs.Games.{Reads, row, whose, Among, first, later, May}
+use Rattle.endless.specs.Games.{Reads, row, whose, first, later, May}
 use Rattle.endless.specs.Says.{WinsFrom, Round, last, then1, heaviest, goes}
 use Rattle.endless.specs.Example.{three, answer, wrong, Told, ThreePlaces}
 use Rattle.endless.proofs.Plays.{rounds_win}
+use Rattle.endless.proofs.Among.{only_among}
 use Rattle.endless.proofs.Steps.{wins_as}
 
 reads : Reads (3 ∷ 0 ∷ 1 ∷ 2 ∷ 1 ∷ 2 ∷ 1 ∷ 2 ∷ 1 ∷ 0 ∷ 1 ∷ 3 ∷ 2 ∷ 0 ∷ 2 ∷ []) three
 unfolding three
 reads = record { is = refl; fine = tt }
-
--- the only one of a list
-only : (m x : ℕ) → Among m (x ∷ []) → m ≡ x
-only m x first = refl
-only m x (later a) = elim a [ ]
 
 -- the answer's plans win: side 0 from 0 and 1, where 2 is the heaviest of every round
 low : (n : ℕ) (ns : List ℕ) (k : ℕ) → n < 2 → Round three 0 (goes answer) n ns k → (heaviest three ns ≤ 2) × (n ≡ 0 → k ≡ 0 → 2 ≤ heaviest three ns) × (n ≡ 1 → 2 ≤ heaviest three ns)
@@ -22,7 +18,7 @@ unfolding three answer
 low zero ns k l (last a b) = let e : k ≡ 1 = b refl in omega arith
 low zero ns k l (then1 {m = m} {ns = ms} a b r) = let e : m ≡ 1 = b refl in let t = low m ms k (omega arith) r in omega (arith, t.0, t.2 e)
 low (suc zero) ns k l (last a b) = omega arith
-low (suc zero) ns k l (then1 {m = m} {ns = ms} a b r) = let e : m ≡ 0 = only m 0 a in let t = low m ms k (omega arith) r in omega (arith, t.0)
+low (suc zero) ns k l (then1 {m = m} {ns = ms} a b r) = let e : m ≡ 0 = only_among m 0 a in let t = low m ms k (omega arith) r in omega (arith, t.0)
 low (suc (suc n)) ns k l r = absurd (omega arith)
 
 -- side 1 from 2, where it stays
@@ -56,7 +52,7 @@ wins_0 = wins_as three 0 (goes answer) (λ n. T (ltb n 2)) (Told answer 0) to fr
 
     held : (n m : ℕ) → T (ltb n 2) → (whose three n ≡ 0 → ⊥) → May three n m → T (ltb m 2)
     held zero m x d a = absurd (d refl)
-    held (suc zero) m x d a = subst (λ (k : ℕ). T (ltb k 2)) (sym (only m 0 a)) tt
+    held (suc zero) m x d a = subst (λ (k : ℕ). T (ltb k 2)) (sym (only_among m 0 a)) tt
     held (suc (suc n)) m x d a = absurd (omega (arith, ltb→lt (suc (suc n)) 2 x))
 
     rounds : (n : ℕ) (ns : List ℕ) → T (ltb n 2) → Round three 0 (goes answer) n ns n → heaviest three ns % 2 ≡ 0

@@ -9,6 +9,13 @@ use Rattle.endless.specs.Bits.{count}
 abbrev pub one_if : Bool → ℕ
 one_if b = cond b 1 0
 
+-- a number counts once for itself, and not for another
+pub one_itself : (x m : ℕ) → x ≡ m → one_if (eqb x m) ≡ 1
+one_itself x m e = ap one_if (eq-eqb x m e)
+
+pub one_other : (x m : ℕ) → (x ≡ m → ⊥) → one_if (eqb x m) ≡ 0
+one_other x m d = ap one_if (ne_eqb x m d)
+
 pub count_zero : (f : ℕ → Bool) → count f 0 ≡ 0
 unfolding count
 count_zero f = refl
@@ -161,9 +168,6 @@ count_more f i = ap (count f) (add-one i) ∙ count_suc f i
 
 pub count_more_yes : (f : ℕ → Bool) (i : ℕ) → f i ≡ true → count f (i + 1) ≡ count f i + 1
 count_more_yes f i e = let a : one_if (f i) ≡ 1 = ap one_if e in omega (arith, count_more f i)
-
-pub count_more_no : (f : ℕ → Bool) (i : ℕ) → f i ≡ false → count f (i + 1) ≡ count f i
-count_more_no f i e = let a : one_if (f i) ≡ 0 = ap one_if e in omega (arith, count_more f i)
 
 -- the elements above 0 of a list
 pub counted_by : (l : List ℕ) → count_by (λ x. ltb 0 x) l ≡ count (λ k. ltb 0 (get_or l k 0)) (length l)

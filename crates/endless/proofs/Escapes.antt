@@ -1,6 +1,5 @@
 -- Whether a place has a move into a set, by its list of moves.
-use Rattle.std.proofs.Common.{◌≡◌, ℕ, ◌<◌, true, false, List, length, get_or, Option, None, Some, MatchOption, sym, refl, ap, ◌∙◌, subst, arith}
-use Rattle.std.specs.List.{AllWithin, HoldsAt}
+use Rattle.std.proofs.Common.{◌≡◌, ℕ, ◌<◌, true, false, List, length, get_or, sym, refl, ap, ◌∙◌, subst}
 use Rattle.std.proofs.lemmas.Bool.{both_ways}
 use Rattle.endless.specs.Games.{Game, Reads, Among, May}
 use Rattle.endless.specs.Bits.{members}
@@ -31,10 +30,3 @@ escapes_none {g} {n} {left} {l} e none = record {
       let t = among_at m l (subst (λ (y : List ℕ). Among m y) (sym e) may) in
       both_ways (members left m) (sym (ap (members left) t.2) ∙ none t.0 t.1) (T_true _ x);
 }
-
--- the first move of a list that leads into a set
-pub first_found : (set l : List ℕ) (r : Option ℕ)
-    → MatchOption r (AllWithin (λ x. members set x ≡ false) l 0 (length l)) (λ k. (k < length l) × HoldsAt (λ x. members set x ≡ true) l k × AllWithin (λ x. members set x ≡ false) l 0 k)
-    → MatchOption r ((k : ℕ) → k < length l → members set (get_or l k 0) ≡ false) (λ k. (k < length l) × (members set (get_or l k 0) ≡ true))
-first_found set l None none = λ k h. none k 0 (omega arith) h
-first_found set l (Some k) some = (some.0, some.1 0)

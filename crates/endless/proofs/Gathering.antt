@@ -1,6 +1,6 @@
 -- Going through the places of a set: those that go to the queue, and one that is given to a side.
-use Rattle.std.proofs.Common.{◌≡◌, ℕ, ◌+◌, ◌*◌, ◌<◌, ◌≤◌, false, ◌⊎◌, List, length, get_or, set, sym, ap, ◌∙◌, subst, inl, inr, arith}
-use Rattle.std.proofs.lemmas.List.{get_or-set_same, get_or-set_other, length-set}
+use Rattle.std.proofs.Common.{◌≡◌, ℕ, ◌+◌, ◌*◌, ◌<◌, ◌≤◌, false, ◌⊎◌, List, length, get_or, set, sym, ap, ◌∙◌, subst, ⊎_elim, inl, inr, arith}
+use Rattle.std.proofs.lemmas.List.{length-set}
 use Rattle.std.proofs.lemmas.Bool.{cases_eq, cases_lt, both_ways}
 use Rattle.endless.specs.Games.{Game}
 use Rattle.endless.specs.Says.{side, goes}
@@ -12,7 +12,8 @@ use Rattle.endless.specs.Parts.{PickedIf}
 use Rattle.endless.proofs.Tests.{T_true, true_T}
 use Rattle.endless.proofs.Sets.{having_in, having_within, having_is}
 use Rattle.endless.proofs.SetLaws.{members_below, some_size}
-use Rattle.endless.proofs.Working.{put_goes, put_side, put_unchanged, removed_out, removed_within, removed_which}
+use Rattle.endless.proofs.Pushed.{pushed_each, pushed_passed}
+use Rattle.endless.proofs.Working.{put_goes, put_side, put_unchanged, removed_out, removed_within, removed_still}
 
 -- a member that a scan from `from` on would have found is below it
 pub before : (l : List ℕ) (from n : ℕ) → (from ≤ n → members l n ≡ false) → In (members l) n → n < from
@@ -64,38 +65,17 @@ module _ {f : ℕ → ℕ} {k : ℕ} {own left queue : List ℕ} {from count : �
       rest = λ n x. so_far.rest n (removed_within left m left' rem n x);
       apart = λ n h e x. apart n h e x (cases_eq n m);
       covers = λ n x o. covers n x o (cases_eq n m);
-      first = λ j h. first j h (cases_lt j count);
-      all = λ n x o. all n x o (cases_eq n m);
+      first = pushed_each queue count m q room (λ n. In (members own) n × (f n ≡ k)) so_far.first (gathering_inside, is);
+      all = λ n x o. pushed_passed queue count m q room n (⊎_elim (λ e. inl e) (λ d. inr (so_far.all n x (removed_still left m left' rem n d o))) (cases_eq n m));
     }
       where
-        front : (j : ℕ) → j < count → get_or queue' j 0 ≡ get_or queue j 0
-        front j h = ap (λ (l : List ℕ). get_or l j 0) q ∙ get_or-set_other queue count j m 0 (omega arith)
-
-        last : get_or queue' count 0 ≡ m
-        last = ap (λ (l : List ℕ). get_or l count 0) q ∙ get_or-set_same queue count m 0 room
-
-        still : (n : ℕ) → (n ≡ m → ⊥) → Out (members left') n → Out (members left) n
-        still n d o x = go (removed_which left m left' rem n x)
-          where
-            go : (n ≡ m) ⊎ In (members left') n → ⊥
-            go (inl e) = d e
-            go (inr y) = o y
-
         apart : (n : ℕ) → n < m + 1 → f n ≡ k → In (members left') n → (n ≡ m) ⊎ (n ≡ m → ⊥) → ⊥
         apart n h e x (inl s) = removed_out left m left' rem (subst (λ (j : ℕ). In (members left') j) s x)
         apart n h e x (inr d) = let y = removed_within left m left' rem n x in so_far.apart n (before left from n (λ l. least.none n l (omega arith)) y) e y
 
         covers : (n : ℕ) → In (members own) n → Out (members left') n → (n ≡ m) ⊎ (n ≡ m → ⊥) → (n < m + 1) × (f n ≡ k)
         covers n x o (inl s) = (omega arith, ap f s ∙ is)
-        covers n x o (inr d) = let t = so_far.covers n x (still n d o) in (omega (arith, t.0, least.after), t.1)
-
-        first : (j : ℕ) → j < count + 1 → (j < count) ⊎ (count ≤ j) → In (members own) (get_or queue' j 0) × (f (get_or queue' j 0) ≡ k)
-        first j h (inl l) = subst (λ (n : ℕ). In (members own) n × (f n ≡ k)) (sym (front j l)) (so_far.first j l)
-        first j h (inr l) = subst (λ (n : ℕ). In (members own) n × (f n ≡ k)) (sym (ap (λ (i : ℕ). get_or queue' i 0) (let e : j ≡ count = omega arith in e) ∙ last)) (gathering_inside, is)
-
-        all : (n : ℕ) → In (members own) n → Out (members left') n → (n ≡ m) ⊎ (n ≡ m → ⊥) → Passed queue' (count + 1) n
-        all n x o (inl s) = (count, omega arith, last ∙ sym s)
-        all n x o (inr d) = let t = so_far.all n x (still n d o) in (t.0, omega (arith, t.1), front t.0 t.1 ∙ t.2)
+        covers n x o (inr d) = let t = so_far.covers n x (removed_still left m left' rem n d o) in (omega (arith, t.0, least.after), t.1)
 
   -- one member more
   pub gathering_more : {m : ℕ} {left' queue' : List ℕ} {r : ℕ} → Least (members left) from m → size own ≤ length queue → PickedIf f k m count left queue left' queue' r → Gathering f k own left' queue' (m + 1) r

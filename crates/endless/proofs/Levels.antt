@@ -11,7 +11,7 @@ use Rattle.endless.specs.View.{Playable}
 use Rattle.endless.specs.Pulling.{Unchanged, Moved, Starts, Attracts}
 use Rattle.endless.specs.Desks.{SameDesk}
 use Rattle.endless.specs.declared.desk.Desk.{Desk}
-use Rattle.endless.specs.Levels.{HeaviestIn, GatheredIn, Brought, Peeled, Peels, Reduces, Lent, levels, Room}
+use Rattle.endless.specs.Levels.{HeaviestIn, GatheredIn, Brought, Peeled, Peels, Reduces, levels, Room}
 use Rattle.endless.proofs.Tests.{T_true, true_T}
 use Rattle.endless.proofs.Sets.{in_or_out, minus_out, having_in, having_within}
 use Rattle.endless.proofs.CountLaws.{count_more_yes, count_add, some_count}
@@ -170,15 +170,6 @@ room_now {g = g} {bound = bound} {own = own} {own' = own'} r k long-w long-r sam
   queues = omega (arith, r.queues, same-d.queue_long, size_sub own' own long-w (λ j x. T_true _ (k.less j (true_T _ x))));
   small = omega (arith, r.small);
   sets = omega (arith, r.sets, ap (λ (k : ℕ). levels g bound * k) long-w);
-}
-
--- the room of a level is lent to its steps
-pub room_lent : {g : Game} {bound : ℕ} {own rest : List ℕ} {desk desk' : Desk} → Room g bound own rest desk → SameDesk desk desk' → Lent g own desk'
-room_lent r same-d = record {
-  inside = r.subgame.places;
-  sized = record { sets = r.sized.sets; answers = omega (arith, r.sized.answers, same-d.out_long); cursors = omega (arith, r.sized.cursors, same-d.escapes_long) };
-  queues = omega (arith, r.queues, same-d.queue_long);
-  small = r.small;
 }
 
 -- the weights below are lighter

@@ -1,4 +1,4 @@
-mod Tests
+pub mod Tests
 pub mod Nth
 pub mod Unique
 mod Exclusive
@@ -29,6 +29,7 @@ mod Tallies
 mod PositionLaws
 mod Starts
 pub mod View
+mod Pushed
 mod Pulling
 pub mod Among
 mod Lists

@@ -1,18 +1,17 @@
 -- Going from places to all that can be come to within a set.
-use Rattle.std.proofs.Common.{◌≡◌, ℕ, ◌+◌, ◌<◌, ◌≤◌, Bool, true, false, ◌||◌, T, ◌⊎◌, List, Option, Some, None, length, option_map, get_or, set, sym, refl, ap, ◌∙◌, subst, inl, inr, arith}
-use Rattle.std.proofs.lemmas.List.{get_or-set_same, get_or-set_other}
+use Rattle.std.proofs.Common.{◌≡◌, ℕ, ◌+◌, ◌<◌, ◌≤◌, Bool, true, false, ◌||◌, T, ◌⊎◌, List, Option, Some, None, length, option_map, get_or, set, sym, refl, ap, ◌∙◌, subst, ⊎_elim, inl, inr, arith}
 use Rattle.std.proofs.lemmas.Bool.{cases_eq, cases_lt, both_ways, eq-eqb, ne_eqb}
 use Rattle.endless.specs.Games.{Game, Among, May}
 use Rattle.endless.specs.Sets.{In, Within}
 use Rattle.endless.specs.Subgames.{Closed}
 use Rattle.endless.specs.Bits.{members, size, Inserted}
 use Rattle.endless.specs.Graph.{moves}
-use Rattle.endless.specs.Pulling.{Passed}
 use Rattle.endless.specs.Parts.{Listing, Told, PartTaken, Covers}
 use Rattle.endless.specs.Growing.{Same, Lists, Grown, Takes}
 use Rattle.endless.specs.declared.closed.Growing.{Growing}
 use Rattle.endless.proofs.Tests.{T_true, true_T}
 use Rattle.endless.proofs.Among.{among_at}
+use Rattle.endless.proofs.Pushed.{pushed_front, pushed_each, pushed_passed}
 use Rattle.endless.proofs.SetLaws.{size_sub, size_sub_lt, size_none, size_some}
 
 -- a set with a place more
@@ -63,31 +62,17 @@ module _ {own part queue : List ℕ} {count : ℕ} (place : ℕ) (same : length 
     lists = record {
       inside = λ n x. inside n (inserted_which ins n x);
       counts = omega (arith, k.counts, ins.grows new);
-      queued = λ j h. queued j h (cases_lt j count);
-      listed = λ n x. listed n (inserted_which ins n x);
+      queued = pushed_each queue count place q spread_room (λ n. In (members part') n) (λ j l. inserted_more ins (get_or queue j 0) (k.queued j l)) (inserted_in ins);
+      listed = λ n x. pushed_passed queue count place q spread_room n (⊎_elim (λ e. inl e) (λ y. inr (k.listed n y)) (inserted_which ins n x));
     };
     grows = omega arith;
     more = inserted_more ins;
-    front = front;
+    front = pushed_front queue count place q;
   }
     where
-      front : (j : ℕ) → j < count → get_or queue' j 0 ≡ get_or queue j 0
-      front j h = ap (λ (l : List ℕ). get_or l j 0) q ∙ get_or-set_other queue count j place 0 (omega arith)
-
-      last : get_or queue' count 0 ≡ place
-      last = ap (λ (l : List ℕ). get_or l count 0) q ∙ get_or-set_same queue count place 0 spread_room
-
       inside : (n : ℕ) → (n ≡ place) ⊎ In (members part) n → In (members own) n
       inside n (inl e) = subst (λ (j : ℕ). In (members own) j) (sym e) (true_T _ mine)
       inside n (inr x) = k.inside n x
-
-      queued : (j : ℕ) → j < count + 1 → (j < count) ⊎ (count ≤ j) → In (members part') (get_or queue' j 0)
-      queued j h (inl l) = subst (λ (n : ℕ). In (members part') n) (sym (front j l)) (inserted_more ins (get_or queue j 0) (k.queued j l))
-      queued j h (inr l) = subst (λ (n : ℕ). In (members part') n) (sym (ap (λ (i : ℕ). get_or queue' i 0) (let e : j ≡ count = omega arith in e) ∙ last)) (inserted_in ins)
-
-      listed : (n : ℕ) → (n ≡ place) ⊎ In (members part) n → Passed queue' (count + 1) n
-      listed n (inl e) = (count, omega arith, last ∙ sym e)
-      listed n (inr x) = let t = k.listed n x in (t.0, omega (arith, t.1), front t.0 t.1 ∙ t.2)
 
 -- what a part is made in stays
 pub same_none : (a : Growing) → Same a a

@@ -1,6 +1,5 @@
 -- Going through a list of places, or through what an iterator gives: those that go to the queue.
-use Rattle.std.proofs.Common.{◌≡◌, ℕ, ◌+◌, ◌*◌, ◌<◌, ◌≤◌, ◌⊎◌, List, Option, Some, None, length, get_or, set, sym, refl, ap, ◌∙◌, subst, inl, inr, arith}
-use Rattle.std.proofs.lemmas.List.{get_or-set_same, get_or-set_other}
+use Rattle.std.proofs.Common.{◌≡◌, ℕ, ◌+◌, ◌*◌, ◌<◌, ◌≤◌, ◌⊎◌, List, Option, Some, None, length, get_or, set, sym, refl, ap, ◌∙◌, subst, ⊎_elim, inl, inr, arith}
 use Rattle.std.proofs.lemmas.Bool.{cases_eq, cases_lt}
 use Rattle.std.proofs.lemmas.Iterator.{YieldsList}
 use Rattle.std.proofs.lemmas.Iterator.Consumers.{YieldsList-turn, YieldsList-end}
@@ -21,7 +20,8 @@ use Rattle.endless.proofs.Tests.{T_true, true_T}
 use Rattle.endless.proofs.SetLaws.{size_some}
 use Rattle.endless.proofs.Sets.{having_in, having_within, having_is}
 use Rattle.endless.proofs.Gathering.{given_same, given_length, given_side, given_stays}
-use Rattle.endless.proofs.Working.{unchanged_goes, same_side, removed_out, removed_within, removed_which}
+use Rattle.endless.proofs.Pushed.{pushed_each, pushed_passed}
+use Rattle.endless.proofs.Working.{unchanged_goes, same_side, removed_out, removed_within, removed_still}
 
 -- what stands in a told list is in the part
 pub told_in : (list : List ℕ) (R : Set) → Told list R → (j : ℕ) → j < length list → In R (get_or list j 0)
@@ -65,17 +65,6 @@ pub record Picking (f : ℕ → ℕ) (k : ℕ) (own list : List ℕ) (i : ℕ) (
   pub first : (j : ℕ) → j < count → In (members own) (get_or queue j 0) × Out (members left) (get_or queue j 0)
   pub all : (n : ℕ) → In (members own) n → Out (members left) n → Passed queue count n
 
-pub picking_none : (f : ℕ → ℕ) (k : ℕ) (own list queue : List ℕ) → Picking f k own list 0 own queue 0
-picking_none f k own list queue = record {
-  counts = omega arith;
-  same = λ e. refl;
-  rest = λ n x. x;
-  apart = λ j h. absurd (omega arith);
-  covers = λ n x o. absurd (o x);
-  first = λ j h. absurd (omega arith);
-  all = λ n x o. absurd (o x);
-}
-
 module _ {f : ℕ → ℕ} {k : ℕ} {own list : List ℕ} {i : ℕ} {left queue : List ℕ} {count : ℕ} (so_far : Picking f k own list i left queue count) where
   later : (n : ℕ) → Passed list i n → Passed list (i + 1) n
   later n p = (p.0, omega (arith, p.1), p.2)
@@ -96,19 +85,6 @@ module _ {f : ℕ → ℕ} {k : ℕ} {own list : List ℕ} {i : ℕ} {left queue
       apart j h (inr l) e x = subst (λ (m : ℕ). In (members left) (get_or list m 0) → f (get_or list m 0) ≡ k → ⊥) (let t : i ≡ j = omega arith in t) d x e
 
   module _ (room : count < length queue) (mine : In (members left) (get_or list i 0)) (is : f (get_or list i 0) ≡ k) (left' queue' : List ℕ) (rem : Removed left (get_or list i 0) left') (q : queue' ≡ set queue count (get_or list i 0)) where
-    front : (j : ℕ) → j < count → get_or queue' j 0 ≡ get_or queue j 0
-    front j h = ap (λ (l : List ℕ). get_or l j 0) q ∙ get_or-set_other queue count j (get_or list i 0) 0 (omega arith)
-
-    last : get_or queue' count 0 ≡ get_or list i 0
-    last = ap (λ (l : List ℕ). get_or l count 0) q ∙ get_or-set_same queue count (get_or list i 0) 0 room
-
-    still : (n : ℕ) → (n ≡ get_or list i 0 → ⊥) → Out (members left') n → Out (members left) n
-    still n d o x = go (removed_which left (get_or list i 0) left' rem n x)
-      where
-        go : (n ≡ get_or list i 0) ⊎ In (members left') n → ⊥
-        go (inl e) = d e
-        go (inr y) = o y
-
     pub picking_take : Picking f k own list (i + 1) left' queue' (count + 1)
     picking_take = record {
       counts = omega (arith, so_far.counts, rem.shrinks (T_true _ mine));
@@ -116,8 +92,10 @@ module _ {f : ℕ → ℕ} {k : ℕ} {own list : List ℕ} {i : ℕ} {left queue
       rest = λ n x. so_far.rest n (removed_within left (get_or list i 0) left' rem n x);
       apart = λ j h e x. apart j h (cases_lt j i) e x;
       covers = λ n x o. covers n x o (cases_eq n (get_or list i 0));
-      first = λ j h. first j h (cases_lt j count);
-      all = λ n x o. all n x o (cases_eq n (get_or list i 0));
+      first = pushed_each queue count (get_or list i 0) q room (λ n. In (members own) n × Out (members left') n)
+          (λ j l. let t = so_far.first j l in (t.0, λ x. t.1 (removed_within left (get_or list i 0) left' rem (get_or queue j 0) x)))
+          (so_far.rest (get_or list i 0) mine, removed_out left (get_or list i 0) left' rem);
+      all = λ n x o. pushed_passed queue count (get_or list i 0) q room n (⊎_elim (λ e. inl e) (λ d. inr (so_far.all n x (removed_still left (get_or list i 0) left' rem n d o))) (cases_eq n (get_or list i 0)));
     }
       where
         apart : (j : ℕ) → j < i + 1 → (j < i) ⊎ (i ≤ j) → f (get_or list j 0) ≡ k → Out (members left') (get_or list j 0)
@@ -126,17 +104,7 @@ module _ {f : ℕ → ℕ} {k : ℕ} {own list : List ℕ} {i : ℕ} {left queue
 
         covers : (n : ℕ) → In (members own) n → Out (members left') n → (n ≡ get_or list i 0) ⊎ (n ≡ get_or list i 0 → ⊥) → Passed list (i + 1) n × (f n ≡ k)
         covers n x o (inl e) = ((i, omega arith, sym e), ap f e ∙ is)
-        covers n x o (inr d) = let t = so_far.covers n x (still n d o) in (later n t.0, t.1)
-
-        first : (j : ℕ) → j < count + 1 → (j < count) ⊎ (count ≤ j) → In (members own) (get_or queue' j 0) × Out (members left') (get_or queue' j 0)
-        first j h (inl l) =
-            let t = so_far.first j l in
-            subst (λ (n : ℕ). In (members own) n × Out (members left') n) (sym (front j l)) (t.0, λ x. t.1 (removed_within left (get_or list i 0) left' rem (get_or queue j 0) x))
-        first j h (inr l) = subst (λ (n : ℕ). In (members own) n × Out (members left') n) (sym (ap (λ (m : ℕ). get_or queue' m 0) (let e : j ≡ count = omega arith in e) ∙ last)) (so_far.rest (get_or list i 0) mine, removed_out left (get_or list i 0) left' rem)
-
-        all : (n : ℕ) → In (members own) n → Out (members left') n → (n ≡ get_or list i 0) ⊎ (n ≡ get_or list i 0 → ⊥) → Passed queue' (count + 1) n
-        all n x o (inl e) = (count, omega arith, last ∙ sym e)
-        all n x o (inr d) = let t = so_far.all n x (still n d o) in (t.0, omega (arith, t.1), front t.0 t.1 ∙ t.2)
+        covers n x o (inr d) = let t = so_far.covers n x (removed_still left (get_or list i 0) left' rem n d o) in (later n t.0, t.1)
 
   -- one place more
   pub picking_more : {left' queue' : List ℕ} {r : ℕ} → size own ≤ length queue → PickedIf f k (get_or list i 0) count left queue left' queue' r → Picking f k own list (i + 1) left' queue' r
@@ -177,13 +145,6 @@ module _ {g : Game} {w h : ℕ} {own part out list : List ℕ} {i : ℕ} {left q
     same : (n : ℕ) → (n ≡ get_or list i 0 → ⊥) → Unchanged out' out'' n
     same = given_same room t.given
 
-    out_still : (n : ℕ) → (n ≡ get_or list i 0 → ⊥) → Out (members left') n → Out (members left) n
-    out_still n d o x = go (removed_which left (get_or list i 0) left' t.left_is n x)
-      where
-        go : (n ≡ get_or list i 0) ⊎ In (members left') n → ⊥
-        go (inl e) = d e
-        go (inr y) = o y
-
     taking_take : Taking g w h own part out list (i + 1) left' queue' out'' (count + 1)
     taking_take = record {
       picks = more;
@@ -197,11 +158,11 @@ module _ {g : Game} {w h : ℕ} {own part out list : List ℕ} {i : ℕ} {left q
       where
         labelled : (n : ℕ) → In (members part) n → Out (members left') n → (n ≡ get_or list i 0) ⊎ (n ≡ get_or list i 0 → ⊥) → side out'' n ≡ w
         labelled n x o (inl e) = ap (side out'') e ∙ given_side room t.given
-        labelled n x o (inr d) = same_side out' out'' n (given_length room t.given) (same n d) ∙ so_far.labelled n x (out_still n d o)
+        labelled n x o (inr d) = same_side out' out'' n (given_length room t.given) (same n d) ∙ so_far.labelled n x (removed_still left (get_or list i 0) left' t.left_is n d o)
 
         stays : (n : ℕ) → In (members part) n → Out (members left') n → (n ≡ get_or list i 0) ⊎ (n ≡ get_or list i 0 → ⊥) → Stays g (members own) n (goes out'' n)
         stays n x o (inl e) = subst (λ (j : ℕ). Stays g (members own) j (goes out'' j)) (sym e) (given_stays room t.given)
-        stays n x o (inr d) = subst (Stays g (members own) n) (sym (unchanged_goes out' out'' n (same n d))) (so_far.stays n x (out_still n d o))
+        stays n x o (inr d) = subst (Stays g (members own) n) (sym (unchanged_goes out' out'' n (same n d))) (so_far.stays n x (removed_still left (get_or list i 0) left' t.left_is n d o))
 
   pub taking_more : size part ≤ length queue → 2 * get_or list i 0 + 1 < length out' → {left' queue' out'' : List ℕ} {r : ℕ} → TakenIf g w h (get_or list i 0) (members own) count left queue out' left' queue' out'' r → Taking g w h own part out list (i + 1) left' queue' out'' r
   taking_more space room (inl t) =

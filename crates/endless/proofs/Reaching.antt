@@ -9,7 +9,7 @@ use Rattle.endless.specs.Games.{Game, Reads, whose, May, Play, Plays, other}
 use Rattle.endless.specs.Says.{side, goes}
 use Rattle.endless.specs.Sets.{Set, In, Out, minus, whole, having}
 use Rattle.endless.specs.Attractors.{Attractor}
-use Rattle.endless.specs.Bits.{members, Removed, Least, NoneFrom}
+use Rattle.endless.specs.Bits.{members, Removed, Least}
 use Rattle.endless.specs.Pulling.{Unchanged, Starts, Moved, Attracts}
 use Rattle.endless.specs.Levels.{Stays, Given}
 use Rattle.endless.specs.declared.desk.Desk.{Desk}
@@ -48,13 +48,6 @@ module _ {g : Game} {w : ℕ} (set : List ℕ) {out out' : List ℕ} {from : ℕ
       stays : (n : ℕ) → n < m + 1 → In (members set) n → (n ≡ m) ⊎ (n ≡ m → ⊥) → Stays g (members set) n (goes out'' n)
       stays n l x (inl e) = subst (λ (j : ℕ). Stays g (members set) j (goes out'' j)) (sym e) (given_stays room t)
       stays n l x (inr d) = subst (Stays g (members set) n) (sym (unchanged_goes out' out'' n (given_same room t n d))) (so_far.stays n (earlier n l d x) x)
-
-  pub handed_all : NoneFrom (members set) from → (bound : ℕ) → Handed g w (members set) bound out out'
-  handed_all none bound = record {
-    frame = so_far.frame;
-    labelled = λ n l x. so_far.labelled n (before set from n (none n) x) x;
-    stays = λ n l x. so_far.stays n (before set from n (none n) x) x;
-  }
 
 -- ---- the one target, and the rest of the game
 

@@ -1,6 +1,6 @@
 -- Words read one place at a time: what a place's words are, what is left behind them, and what a whole game is made of.
-use Rattle.std.proofs.Common.{◌≡◌, ℕ, suc, ◌+◌, ◌-◌, ◌<◌, ◌≤◌, Bool, true, false, ◌&&◌, T, ltb, List, [], ◌∷◌, ◌++◌, length, get_or, take, drop, Some, None, Ok, Err, Option, Result, add-zero, sym, refl, ap, ◌∙◌, subst, arith, le→leb}
-use Rattle.std.proofs.lemmas.List.{drop_more, drop-drop, drop_all, append-nil, append_assoc, length-append, take_at, drop_at, take-append-drop, length-take-le, length-drop, take_rest}
+use Rattle.std.proofs.Common.{◌≡◌, ℕ, suc, ◌+◌, ◌-◌, ◌<◌, ◌≤◌, Bool, true, false, ◌&&◌, T, ltb, List, [], ◌∷◌, ◌++◌, length, take, drop, Some, None, Ok, Err, Option, Result, add-zero, sym, refl, ap, ◌∙◌, subst, arith, le→leb}
+use Rattle.std.proofs.lemmas.List.{drop-drop, drop_all, append-nil, append_assoc, length-append, take_at, drop_at, take-append-drop, length-take-le, length-drop, take_rest}
 use Rattle.std.specs.List.{list_all}
 use Rattle.std.proofs.lemmas.Bool.{both_ways}
 use Rattle.std.proofs.lemmas.Iterator.{YieldsList}
@@ -21,11 +21,6 @@ use Rattle.endless.specs.declared.side.Side.{Side}
 use Rattle.endless.specs.declared.side.Side.TheVariants.{Even, Odd}
 use Rattle.endless.specs.declared.side.NoSide.{NoSide}
 use Rattle.endless.specs.declared.place.Head.{Head}
-
--- three words at the front
-pub three_front : (s : List ℕ) → 3 ≤ length s → s ≡ get_or s 0 0 ∷ get_or s 1 0 ∷ get_or s 2 0 ∷ drop 3 s
-three_front s h = let a : 0 < length s = omega arith in let b : 1 < length s = omega arith in
-    drop_more s 0 0 a ∙ ap (λ (r : List ℕ). get_or s 0 0 ∷ r) (drop_more s 1 0 b ∙ ap (λ (r : List ℕ). get_or s 1 0 ∷ r) (drop_more s 2 0 h))
 
 -- moves tested one by one
 pub all_is_below : (n : ℕ) (s : List ℕ) → list_all (λ x. ltb x n) s ≡ below n s

@@ -1,16 +1,9 @@
 -- Reading the words of a game from the front: past i places, what is left are the words of the other places.
-use Rattle.std.proofs.Common.{◌≡◌, ℕ, zero, suc, ◌+◌, ◌<◌, ◌≤◌, Bool, true, false, ◌&&◌, T, List, [], ◌∷◌, ◌++◌, length, get_or, drop, sym, refl, ap, ◌∙◌, add-one, arith}
+use Rattle.std.proofs.Common.{◌≡◌, ℕ, zero, suc, ◌+◌, ◌<◌, ◌≤◌, List, [], ◌∷◌, ◌++◌, length, get_or, drop, sym, refl, ap, ◌∙◌, add-one, arith}
 use mathlib.Core.Option.{some}
 use Rattle.std.proofs.lemmas.List.{drop-drop, drop_at, length-drop, length-append}
 use Rattle.endless.specs.Games.{Place, Game, nth, opt, row, whose, weight}
 use Rattle.endless.specs.Graph.{moves, Reading}
-use Rattle.endless.specs.View.{words_of}
-
--- ---- the parts of a conjunction
-
-pub both : (x y : Bool) → T (x && y) → T x × T y
-both true y h = (tt, h)
-both false y h = absurd h
 
 -- ---- the place at i
 
@@ -25,9 +18,6 @@ there (p ∷ ps) zero h = record { p = p; is = refl; rest = refl }
 there (p ∷ ps) (suc i) h = let t = there ps i (omega arith) in record { p = t.p; is = t.is; rest = t.rest }
 
 -- ---- i places read, up to the word at `at`
-
-pub reading_start : (g : Game) → Reading (words_of g) g 0 1
-reading_start g = record { left = refl; bound = omega arith }
 
 pub reading_next : (s : List ℕ) (g : Game) (i at : ℕ) → i < length g → Reading s g i at → Reading s g (i + 1) (at + (3 + length (moves g i)))
 reading_next s g i at h r = build (there g i h)

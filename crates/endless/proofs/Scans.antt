@@ -1,5 +1,5 @@
 -- Scans over the words of a set: what has been passed, counted or filled so far.
-use Rattle.std.proofs.Common.{◌≡◌, ℕ, suc, ◌+◌, ◌-◌, ◌*◌, ◌/◌, ◌%◌, ◌^◌, ◌<◌, ◌≤◌, min, Bool, true, false, eqb, ltb, ◌⊎◌, List, [], ◌∷◌, length, get_or, drop, set, sym, ap, ◌∙◌, subst, ap₂, inl, inr, arith}
+use Rattle.std.proofs.Common.{◌≡◌, ℕ, suc, ◌+◌, ◌-◌, ◌*◌, ◌/◌, ◌%◌, ◌^◌, ◌<◌, ◌≤◌, min, Bool, true, false, eqb, ltb, ◌⊎◌, List, [], ◌∷◌, length, get_or, drop, set, sym, ap, ◌∙◌, ap₂, inl, inr, arith}
 use lib.Count.{ones, count_trailing_zeros}
 use Rattle.std.specs.Bool.{MatchBool}
 use Rattle.std.specs.List.{AllWithin, HoldsAt, enumerate_from, sum_by}
@@ -186,21 +186,3 @@ size_below l n room are = count_same (members l) (λ j. ltb j n) (32 * length l)
 -- ---- a loop that goes from member to member: what holds of each member below i
 abbrev pub EachBelow : (ℕ → Bool) → (ℕ → Type 0) → ℕ → Type 0
 EachBelow f P i = (j : ℕ) → j < i → f j ≡ true → P j
-
-pub each_start : (f : ℕ → Bool) (P : ℕ → Type 0) → EachBelow f P 0
-each_start f P j h e = absurd (omega arith)
-
-pub each_more : (f : ℕ → Bool) (P : ℕ → Type 0) (i m : ℕ) → Least f i m → EachBelow f P i → P m → EachBelow f P (m + 1)
-each_more f P i m least below here j h e = go (cases_lt j i) (cases_eq j m)
-  where
-    go : (j < i) ⊎ (i ≤ j) → (j ≡ m) ⊎ (j ≡ m → ⊥) → P j
-    go (inl l) d = below j l e
-    go (inr l) (inl d) = subst P (sym d) here
-    go (inr l) (inr d) = absurd (both_ways (f j) (least.none j l (omega arith)) e)
-
-pub each_all : (f : ℕ → Bool) (P : ℕ → Type 0) (i : ℕ) → NoneFrom f i → EachBelow f P i → (j : ℕ) → f j ≡ true → P j
-each_all f P i none below j e = go (cases_lt j i)
-  where
-    go : (j < i) ⊎ (i ≤ j) → P j
-    go (inl l) = below j l e
-    go (inr l) = absurd (both_ways (f j) (none j l) e)

@@ -2,10 +2,10 @@
 use Rattle.std.proofs.Common.{◌≡◌, ℕ, zero, suc, ◌+◌, ◌-◌, ◌*◌, ◌/◌, ◌%◌, ◌^◌, ◌<◌, ◌≤◌, Bool, true, false, not, ◌&&◌, ◌||◌, eqb, ◌⊎◌, List, length, get_or, set, replicate, sym, refl, ap, ◌∙◌, subst, ap₂, inl, inr, arith}
 use lib.Bits.{bit_and, bit_or}
 use Rattle.std.proofs.lemmas.Nat.{one_shl, pow_below}
-use Rattle.std.proofs.lemmas.List.{get_or-set_same, get_or-set_other, get_or_past, length-set, ext_get_or}
+use Rattle.std.proofs.lemmas.List.{get_or-set_same, get_or-set_other, get_or_past, length-set}
 use Rattle.std.proofs.lemmas.Bool.{cases_eq, cases_lt, both_ways, eq-eqb, ne_eqb}
 use Rattle.endless.specs.Bits.{digit, members, count, size, Inserted, Removed}
-use Rattle.endless.proofs.BitLaws.{digit_none, digit_and, digit_or, digit_power, digit_not, digits_same}
+use Rattle.endless.proofs.BitLaws.{digit_none, digit_and, digit_or, digit_power, digit_not}
 use Rattle.endless.proofs.CountLaws.{count_same, count_le, count_sub, count_sub_lt, count_with, count_without, count_none, none_count, count_some, some_count}
 
 -- past the words there is no member
@@ -177,12 +177,6 @@ unfolding size
 size_sub_lt l r i e s is out =
     let a : count (members l) (32 * length l) ≡ count (members l) (32 * length r) = ap (λ n. count (members l) (32 * n)) e in
     omega (arith, count_sub_lt (members l) (members r) i (32 * length r) (λ j h. s j) (members_below r i is) is out)
-
--- two sets of as many words of 32 bits with the same members are the same words
-pub members_same : (l r : List ℕ) → length l ≡ length r → ((k : ℕ) → get_or l k 0 < 2 ^ 32) → ((k : ℕ) → get_or r k 0 < 2 ^ 32)
-    → ((j : ℕ) → members l j ≡ members r j) → l ≡ r
-members_same l r e fl fr same =
-    ext_get_or 0 l r e (λ k h. digits_same 32 (get_or l k 0) (get_or r k 0) (fl k) (fr k) (λ b below. sym (members_at l k b below) ∙ same (32 * k + b) ∙ members_at r k b below))
 
 -- words that are all 0 hold no member
 zeros : (n i : ℕ) → ◌≡◌ {A = ℕ} (get_or (replicate n 0) i 0) 0

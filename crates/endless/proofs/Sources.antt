@@ -1,11 +1,12 @@
 -- How often a place stands among moves, how many moves lead to it, and which places have them.
 use Rattle.std.proofs.Common.{◌≡◌, ℕ, zero, suc, ◌+◌, ◌*◌, ◌<◌, ◌≤◌, ◌&&◌, T, eqb, ltb, ◌⊎◌, ◌↔◌, List, [], ◌∷◌, ◌++◌, length, get_or, take, drop, replicate, sym, refl, ap, ◌∙◌, subst, ap₂, inl, inr, add_assoc, zero-add, add-one, arith, ltb→lt}
 use Rattle.std.proofs.lemmas.List.{take_more, take-append-drop, length-append, length-replicate}
-use Rattle.std.proofs.lemmas.Bool.{cases_eq, eq-eqb, ne_eqb}
+use Rattle.std.proofs.lemmas.Bool.{cases_eq}
 use Rattle.endless.specs.Games.{Place, Game, Among, first, later, opt, ok_ps, below, some_of, May}
 use Rattle.endless.specs.Graph.{moves, times, entering, edges, sources, upto, Preds}
-use Rattle.endless.proofs.CountLaws.{one_if, one_le}
-use Rattle.endless.proofs.Reading.{both, there}
+use Rattle.endless.proofs.CountLaws.{one_if, one_itself, one_other, one_le}
+use Rattle.endless.proofs.Tests.{both}
+use Rattle.endless.proofs.Reading.{there}
 
 -- ---- times
 
@@ -23,8 +24,7 @@ times_left m xs k = sym (times_append m (take k xs) (drop k xs)) ∙ ap (times m
 
 pub times_here : (xs : List ℕ) (k : ℕ) → k < length xs → times (get_or xs k 0) (take k xs) < times (get_or xs k 0) xs
 times_here xs k h =
-    let one : one_if (eqb (get_or xs k 0) (get_or xs k 0)) ≡ 1 = ap one_if (eq-eqb (get_or xs k 0) (get_or xs k 0) refl) in
-    omega (arith, times_more (get_or xs k 0) xs k h, times_left (get_or xs k 0) xs (k + 1))
+    omega (arith, one_itself (get_or xs k 0) (get_or xs k 0) refl, times_more (get_or xs k 0) xs k h, times_left (get_or xs k 0) xs (k + 1))
 
 pub times_le : (m : ℕ) (xs : List ℕ) → times m xs ≤ length xs
 times_le m [] = omega arith
@@ -42,14 +42,12 @@ times_past n [] h = refl
 times_past n (x ∷ xs) h =
     let t = both (ltb x n) (below n xs) h in
     let l : x < n = ltb→lt x n t.0 in
-    let none : one_if (eqb x n) ≡ 0 = ap one_if (ne_eqb x n (λ e. omega arith)) in
-    let rest : times n xs ≡ 0 = times_past n xs t.1 in
-    omega arith
+    omega (arith, one_other x n (λ e. omega arith), times_past n xs t.1)
 
 -- to stand in a list is to stand there once or more
 pub among_times : (m : ℕ) (xs : List ℕ) → Among m xs → 0 < times m xs
 among_times m [] a = elim a [ ]
-among_times m (x ∷ xs) first = let one : one_if (eqb m m) ≡ 1 = ap one_if (eq-eqb m m refl) in omega arith
+among_times m (x ∷ xs) first = omega (arith, one_itself m m refl)
 among_times m (x ∷ xs) (later a) = omega (arith, among_times m xs a)
 
 pub times_among : (m : ℕ) (xs : List ℕ) → 0 < times m xs → Among m xs
@@ -58,7 +56,7 @@ times_among m (x ∷ xs) h = go (times_among m xs) (cases_eq x m)
   where
     go : (0 < times m xs → Among m xs) → (x ≡ m) ⊎ (x ≡ m → ⊥) → Among m (x ∷ xs)
     go rest (inl e) = subst (λ y. Among m (y ∷ xs)) (sym e) first
-    go rest (inr d) = let none : one_if (eqb x m) ≡ 0 = ap one_if (ne_eqb x m d) in later (rest (omega arith))
+    go rest (inr d) = later (rest (omega (arith, one_other x m d)))
 
 -- ---- sums
 
@@ -93,9 +91,7 @@ upto_none : (x n : ℕ) → n ≤ x → upto (λ j. one_if (eqb x j)) n ≡ 0
 unfolding upto
 upto_none x zero h = refl
 upto_none x (suc n) h =
-    let none : one_if (eqb x n) ≡ 0 = ap one_if (ne_eqb x n (λ e. omega arith)) in
-    let rest : upto (λ j. one_if (eqb x j)) n ≡ 0 = upto_none x n (omega arith) in
-    omega arith
+    omega (arith, one_other x n (λ e. omega arith), upto_none x n (omega arith))
 
 upto_one : (x n : ℕ) → upto (λ j. one_if (eqb x j)) n ≤ 1
 unfolding upto
@@ -104,7 +100,7 @@ upto_one x (suc n) = go (upto_one x n) (cases_eq x n)
   where
     go : upto (λ j. one_if (eqb x j)) n ≤ 1 → (x ≡ n) ⊎ (x ≡ n → ⊥) → upto (λ j. one_if (eqb x j)) (suc n) ≤ 1
     go rest (inl e) = omega (arith, upto_none x n (omega arith), one_le (eqb x n))
-    go rest (inr d) = let none : one_if (eqb x n) ≡ 0 = ap one_if (ne_eqb x n d) in omega arith
+    go rest (inr d) = omega (arith, one_other x n d)
 
 upto_nothing : (n : ℕ) → upto (λ j. 0) n ≡ 0
 unfolding upto
@@ -164,24 +160,21 @@ sources_length v (p ∷ ps) m =
 sources_below : (u v : ℕ) (g : List Place) (m : ℕ) → u < v → times u (sources v g m) ≡ 0
 sources_below u v [] m h = refl
 sources_below u v (p ∷ ps) m h =
-    let none : one_if (eqb v u) ≡ 0 = ap one_if (ne_eqb v u (λ e. omega arith)) in
     let front : times u (replicate (times m p.moves) v) ≡ times m p.moves * 0 =
-    times_replicate u (times m p.moves) v ∙ ap (λ n. times m p.moves * n) none in
+    times_replicate u (times m p.moves) v ∙ ap (λ n. times m p.moves * n) (one_other v u (λ e. omega arith)) in
     let rest : times u (sources (suc v) ps m) ≡ 0 = sources_below u (suc v) ps m (omega arith) in
     omega (arith, times_append u (replicate (times m p.moves) v) (sources (suc v) ps m))
 
 pub sources_times : (u v : ℕ) (g : List Place) (m : ℕ) → times (v + u) (sources v g m) ≡ times m (moves g u)
 sources_times u v [] m = refl
 sources_times zero v (p ∷ ps) m =
-    let one : one_if (eqb v (v + 0)) ≡ 1 = ap one_if (eq-eqb v (v + 0) (omega arith)) in
     let front : times (v + 0) (replicate (times m p.moves) v) ≡ times m p.moves * 1 =
-    times_replicate (v + 0) (times m p.moves) v ∙ ap (λ n. times m p.moves * n) one in
+    times_replicate (v + 0) (times m p.moves) v ∙ ap (λ n. times m p.moves * n) (one_itself v (v + 0) (omega arith)) in
     let rest : times (v + 0) (sources (suc v) ps m) ≡ 0 = sources_below (v + 0) (suc v) ps m (omega arith) in
     omega (arith, times_append (v + 0) (replicate (times m p.moves) v) (sources (suc v) ps m))
 sources_times (suc u) v (p ∷ ps) m =
-    let none : one_if (eqb v (v + suc u)) ≡ 0 = ap one_if (ne_eqb v (v + suc u) (λ e. omega arith)) in
     let front : times (v + suc u) (replicate (times m p.moves) v) ≡ times m p.moves * 0 =
-    times_replicate (v + suc u) (times m p.moves) v ∙ ap (λ n. times m p.moves * n) none in
+    times_replicate (v + suc u) (times m p.moves) v ∙ ap (λ n. times m p.moves * n) (one_other v (v + suc u) (λ e. omega arith)) in
     let rest : times (suc v + u) (sources (suc v) ps m) ≡ times m (moves ps u) = sources_times u (suc v) ps m in
     let same : times (v + suc u) (sources (suc v) ps m) ≡ times (suc v + u) (sources (suc v) ps m) =
     ap (λ n. times n (sources (suc v) ps m)) (let e : v + suc u ≡ suc v + u = omega arith in e) in

@@ -8,7 +8,7 @@ use Rattle.endless.specs.View.{words_of}
 use Rattle.endless.specs.Heads.{head_of}
 use Rattle.endless.specs.declared.place.HeadWords.{HeadWords}
 use Rattle.endless.proofs.Heads.{Turn, turn}
-use Rattle.endless.proofs.Reading.{reading_start, reading_next}
+use Rattle.endless.proofs.Reading.{reading_next}
 
 -- the starts of the first i places of a game: these heads are still to come
 pub record Starting (g : Game) (heads : List HeadWords) (starts : List ℕ) (i at : ℕ) : Type 0 where
@@ -16,14 +16,6 @@ pub record Starting (g : Game) (heads : List HeadWords) (starts : List ℕ) (i a
   pub left : heads ≡ map head_of (drop i g)
   pub here : Reading (words_of g) g i at
   pub found : (j : ℕ) → j < i → Reading (words_of g) g j (get_or starts j 0)
-
-pub starting_start : (g : Game) (heads : List HeadWords) (starts : List ℕ) (i : ℕ) → heads ≡ map head_of g → i ≡ 0 → Starting g heads starts i 1
-starting_start g heads starts i are e = record {
-  most = omega arith;
-  left = are ∙ ap (λ k. map head_of (drop k g)) (sym e);
-  here = subst (λ k. Reading (words_of g) g k 1) (sym e) (reading_start g);
-  found = λ j h. absurd (omega arith);
-}
 
 module _ (g : Game) (heads : List HeadWords) (starts : List ℕ) (i at : ℕ) (inv : Starting g heads starts i at) (head : HeadWords) (rest : List HeadWords) (is : heads ≡ head ∷ rest) where
   this : Turn g i head rest
@@ -34,9 +26,6 @@ module _ (g : Game) (heads : List HeadWords) (starts : List ℕ) (i at : ℕ) (i
 
   next : Reading (words_of g) g (i + 1) (at + (3 + head.moves))
   next = subst (λ n. Reading (words_of g) g (i + 1) (at + (3 + n))) (sym this.many) (reading_next (words_of g) g i at this.below inv.here)
-
-  pub starting_fits : at + (3 + head.moves) ≤ length (words_of g)
-  starting_fits = next.bound
 
   pub starting_more : (k n : ℕ) (after : List ℕ) → length starts ≡ length g → k ≡ i → n ≡ i + 1 → after ≡ set starts k at → Starting g rest after n (at + (3 + head.moves))
   starting_more k n after long same up e = record {

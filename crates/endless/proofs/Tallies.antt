@@ -1,7 +1,7 @@
 -- Counts of weights, place by place.
 use Rattle.std.proofs.Common.{◌≡◌, ℕ, zero, suc, ◌+◌, ◌^◌, ◌<◌, ◌≤◌, eqb, ◌⊎◌, List, [], ◌∷◌, length, get_or, drop, set, map, replicate, sym, refl, ap, ◌∙◌, inl, inr, add-one, arith}
 use Rattle.std.proofs.lemmas.List.{get_or-set_same, get_or-set_other, length-set, length-replicate, length-map, length-drop}
-use Rattle.std.proofs.lemmas.Bool.{cases_eq, eq-eqb, ne_eqb}
+use Rattle.std.proofs.lemmas.Bool.{cases_eq}
 use Rattle.endless.specs.Games.{Game, weight}
 use Rattle.endless.specs.Bits.{count}
 use Rattle.endless.specs.Weights.{weighing}
@@ -10,7 +10,7 @@ use Rattle.endless.specs.View.{Playable}
 use Rattle.endless.specs.declared.place.HeadWords.{HeadWords}
 use Rattle.endless.proofs.Places.{ok_size, weight_below}
 use Rattle.endless.proofs.Heads.{Turn, turn}
-use Rattle.endless.proofs.CountLaws.{one_if, count_zero, count_suc, count_le}
+use Rattle.endless.proofs.CountLaws.{one_if, one_itself, one_other, count_zero, count_suc, count_le}
 
 -- the first i places counted by their weights
 pub record Tallied (g : Game) (i : ℕ) (counts : List ℕ) : Type 0 where
@@ -38,12 +38,11 @@ module _ (g : Game) (i : ℕ) (counts : List ℕ) (t : Tallied g i counts) where
       go : (k : ℕ) → (k ≡ w) ⊎ (k ≡ w → ⊥) → get_or (set counts w (get_or counts w 0 + 1)) k 0 ≡ count (λ n. eqb (weight g n) k) (i + 1)
       go k (inl e) =
           let here : get_or (set counts w (get_or counts w 0 + 1)) w 0 ≡ get_or counts w 0 + 1 = get_or-set_same counts w (get_or counts w 0 + 1) 0 (omega (arith, t.long)) in
-          let one : one_if (eqb (weight g i) k) ≡ 1 = ap one_if (eq-eqb (weight g i) k (omega arith)) in
           let was : get_or counts k 0 ≡ get_or counts w 0 = ap (λ j. get_or counts j 0) e in
-          ap (λ j. get_or (set counts w (get_or counts w 0 + 1)) j 0) e ∙ here ∙ (omega (arith, step k, t.are k))
+          ap (λ j. get_or (set counts w (get_or counts w 0 + 1)) j 0) e ∙ here ∙ (omega (arith, one_itself (weight g i) k (omega arith), step k, t.are k))
       go k (inr d) =
-          let none : one_if (eqb (weight g i) k) ≡ 0 = ap one_if (ne_eqb (weight g i) k (λ e. d (omega arith))) in
-          get_or-set_other counts w k (get_or counts w 0 + 1) 0 d ∙ (omega (arith, step k, t.are k))
+          get_or-set_other counts w k (get_or counts w 0 + 1) 0 d
+          ∙ (omega (arith, one_other (weight g i) k (λ e. d (omega arith)), step k, t.are k))
 
 -- the same over the heads: these are still to come
 abbrev pub Weighed : Game → List HeadWords → List ℕ → Type 0

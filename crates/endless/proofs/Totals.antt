@@ -1,9 +1,9 @@
 -- Counts and their running sums.
-use Rattle.std.proofs.Common.{◌≡◌, ℕ, suc, ◌+◌, ◌^◌, ◌<◌, ◌≤◌, eqb, ◌⊎◌, List, length, get_or, take, set, sym, refl, ap, ◌∙◌, inl, inr, add-one, arith}
+use Rattle.std.proofs.Common.{◌≡◌, ℕ, suc, ◌+◌, ◌^◌, ◌<◌, ◌≤◌, ◌⊎◌, List, length, get_or, take, set, sym, refl, ap, ◌∙◌, inl, inr, add-one, arith}
 use Rattle.std.proofs.lemmas.List.{get_or-set_same, get_or-set_other}
-use Rattle.std.proofs.lemmas.Bool.{cases_eq, eq-eqb, ne_eqb}
+use Rattle.std.proofs.lemmas.Bool.{cases_eq}
 use Rattle.endless.specs.Graph.{times, upto, Counts}
-use Rattle.endless.proofs.CountLaws.{one_if}
+use Rattle.endless.proofs.CountLaws.{one_itself, one_other}
 use Rattle.endless.proofs.Sources.{times_more, times_here, upto_zero, upto_suc, upto_mono}
 
 -- ---- one more counted
@@ -15,13 +15,12 @@ counts_more counts targets k now after inv h inside many is e m = ap (λ l. get_
   where
     go : (get_or targets k 0 ≡ m) ⊎ (get_or targets k 0 ≡ m → ⊥) → get_or (set now (get_or targets k 0) (many + 1)) m 0 ≡ get_or counts m 0 + times m (take (k + 1) targets)
     go (inl d) =
-        let one : one_if (eqb (get_or targets k 0) m) ≡ 1 = ap one_if (eq-eqb (get_or targets k 0) m d) in
         let was : get_or now (get_or targets k 0) 0 ≡ get_or now m 0 = ap (λ j. get_or now j 0) d in
         ap (λ j. get_or (set now (get_or targets k 0) (many + 1)) j 0) (sym d) ∙ get_or-set_same now (get_or targets k 0) (many + 1) 0 inside
-        ∙ (omega (arith, inv m, times_more m targets k h))
+        ∙ (omega (arith, inv m, times_more m targets k h, one_itself (get_or targets k 0) m d))
     go (inr d) =
-        let none : one_if (eqb (get_or targets k 0) m) ≡ 0 = ap one_if (ne_eqb (get_or targets k 0) m d) in
-        get_or-set_other now (get_or targets k 0) m (many + 1) 0 (λ e. d (sym e)) ∙ (omega (arith, inv m, times_more m targets k h))
+        get_or-set_other now (get_or targets k 0) m (many + 1) 0 (λ e. d (sym e))
+        ∙ (omega (arith, inv m, times_more m targets k h, one_other (get_or targets k 0) m d))
 
 pub counts_fits : (counts targets : List ℕ) (k : ℕ) (now : List ℕ) → Counts counts (take k targets) now → k < length targets
     → ((m : ℕ) → get_or counts m 0 + times m targets < 2 ^ 64) → get_or now (get_or targets k 0) 0 + 1 < 2 ^ 64

@@ -1,6 +1,6 @@
 -- A search back from a place: its state over one step, over the places that may move to one, and over the queue.
-use Rattle.std.proofs.Common.{◌≡◌, ℕ, ◌+◌, ◌<◌, ◌≤◌, ◌⊎◌, List, [], ◌∷◌, length, get_or, drop, sym, refl, ap, ◌∙◌, subst, inl, inr, arith}
-use Rattle.std.proofs.lemmas.List.{drop_more, drop_all, get_or-set_same, get_or-set_other}
+use Rattle.std.proofs.Common.{◌≡◌, ℕ, ◌+◌, ◌<◌, ◌≤◌, ◌⊎◌, List, [], ◌∷◌, length, get_or, drop, sym, refl, ap, ◌∙◌, subst, ⊎_elim, inl, inr, arith}
+use Rattle.std.proofs.lemmas.List.{drop_more, drop_all}
 use Rattle.std.proofs.lemmas.Bool.{cases_eq, cases_lt}
 use Rattle.endless.specs.Games.{Game, whose, weight, Among, first, later, May}
 use Rattle.endless.specs.Says.{Round, last, then1, goes}
@@ -14,7 +14,9 @@ use Rattle.endless.specs.declared.search_back.SearchBack.{SearchBack}
 use Rattle.endless.proofs.Tests.{T_true}
 use Rattle.endless.proofs.Sets.{in_or_out}
 use Rattle.endless.proofs.Looking.{Lists, may_at}
-use Rattle.endless.proofs.Working.{removed_out, removed_within, removed_which, moved_none, moved_then}
+use Rattle.endless.proofs.Among.{none_among}
+use Rattle.endless.proofs.Pushed.{pushed_front, pushed_before, pushed_each, pushed_passed}
+use Rattle.endless.proofs.Working.{removed_out, removed_within, removed_still, moved_none, moved_one, moved_then}
 
 -- one step more at the front of a walk
 pub walk_more : (g : Game) (X : Set) (w : ℕ) (plan : ℕ → ℕ) (k n m x : ℕ) → Step g w plan n m → In X n → weight g n ≤ k → (m ≡ x) ⊎ (In X m × Walk g X w plan k m x) → Walk g X w plan k n x
@@ -30,21 +32,10 @@ Visits g w plan k from to tail left queue left' queue' r =
 visited_moves : (g : Game) (w : ℕ) (plan : ℕ → ℕ) (k from to tail : ℕ) (left queue left' queue' answer : List ℕ) (r : ℕ) → tail + size left ≤ length queue → Visits g w plan k from to tail left queue left' queue' r → Moved left queue answer tail left' queue' answer r
 visited_moves g w plan k from to tail left queue left' queue' answer r space (inl t) =
     let s = t.1 in
-    subst (λ (l : List ℕ). Moved left queue answer tail l queue' answer r) (sym s.left_is) (subst (λ (q : List ℕ). Moved left queue answer tail left q answer r) (sym s.queue_is) (subst (λ (j : ℕ). Moved left queue answer tail left queue answer j) (sym t.0) (moved_none left queue answer tail)))
+    rw (s.left_is, s.queue_is, t.0) (moved_none left queue answer tail)
 visited_moves g w plan k from to tail left queue left' queue' answer r space (inr t) =
     let c = t.1 in
-    let shrinks = c.left_is.shrinks (T_true _ c.was) in
-    record {
-      counts = omega (arith, t.0, shrinks);
-      grows = omega (arith, t.0);
-      less = removed_within left from left' c.left_is;
-      front = λ j h. ap (λ (q : List ℕ). get_or q j 0) c.queue_is ∙ get_or-set_other queue tail j from 0 (omega arith);
-      came = λ j low high.
-          let e : j ≡ tail = omega (arith, t.0) in
-          let s : tail < length queue = omega arith in
-          subst (λ (n : ℕ). In (members left) n) (sym (ap (λ (i : ℕ). get_or queue' i 0) e ∙ ap (λ (q : List ℕ). get_or q tail 0) c.queue_is ∙ get_or-set_same queue tail from 0 s)) c.was;
-      frame = λ n x. (refl, refl);
-    }
+    rw t.0 (moved_one left queue answer tail from left' queue' answer space c.was c.left_is c.queue_is (λ n d. (refl, refl)))
 
 -- what is left and steps to `to` is among the places yet to be looked at
 abbrev Awaits : Game → ℕ → (ℕ → ℕ) → ℕ → ℕ → List ℕ → List ℕ → Type 0
@@ -64,47 +55,26 @@ module _ (g : Game) (w : ℕ) (plan : ℕ → ℕ) (k from to tail : ℕ) (left 
       go (inr d) = passed_by n d (waits n i l step)
 
   module _ (space : tail < length queue) (c : Joined g w plan k from to tail left queue left' queue') where
-    front : (j : ℕ) → j < tail → get_or queue' j 0 ≡ get_or queue j 0
-    front j h = ap (λ (q : List ℕ). get_or q j 0) c.queue_is ∙ get_or-set_other queue tail j from 0 (omega arith)
-
-    end : get_or queue' tail 0 ≡ from
-    end = ap (λ (q : List ℕ). get_or q tail 0) c.queue_is ∙ get_or-set_same queue tail from 0 space
-
     inside : In X from
     inside = so_far.within from c.was
 
     walk : Walk g X w plan k from x
     walk = walk_more g X w plan k from to x (may, c.by_plan) inside c.light comes
 
-    was_out : (n : ℕ) → Out (members left') n → (n ≡ from → ⊥) → Out (members left) n
-    was_out n o d y = go (removed_which left from left' c.left_is n y)
-      where
-        go : (n ≡ from) ⊎ In (members left') n → ⊥
-        go (inl e) = d e
-        go (inr z) = o z
-
     joined : Tracing g X w plan k x (members left') queue' head (tail + 1)
     joined = record {
       within = λ n y. so_far.within n (removed_within left from left' c.left_is n y);
-      first = front 0 so_far.some_first ∙ so_far.first;
+      first = pushed_front queue tail from c.queue_is 0 so_far.some_first ∙ so_far.first;
       some_first = omega (arith, so_far.some_first);
-      queued = λ j h. queued j (cases_lt j tail) h;
+      queued = pushed_each queue tail from c.queue_is space (λ n. (n ≡ x) ⊎ (In X n × Walk g X w plan k n x)) so_far.queued (inr (inside, walk));
       walks = λ n y o. walks n y o (cases_eq n from);
-      listed = λ n y o. listed n y o (cases_eq n from);
-      looked = λ n m y l p s. so_far.looked n m (removed_within left from left' c.left_is n y) l (p.0, p.1, sym (front p.0 (omega (arith, p.1))) ∙ p.2) s;
+      listed = λ n y o. pushed_passed queue tail from c.queue_is space n (⊎_elim (λ e. inl e) (λ d. inr (so_far.listed n y (removed_still left from left' c.left_is n d o))) (cases_eq n from));
+      looked = λ n m y l p s. so_far.looked n m (removed_within left from left' c.left_is n y) l (pushed_before queue tail from c.queue_is head m order p) s;
     }
       where
-        queued : (j : ℕ) → (j < tail) ⊎ (tail ≤ j) → j < tail + 1 → (get_or queue' j 0 ≡ x) ⊎ (In X (get_or queue' j 0) × Walk g X w plan k (get_or queue' j 0) x)
-        queued j (inl h) l = subst (λ (n : ℕ). (n ≡ x) ⊎ (In X n × Walk g X w plan k n x)) (sym (front j h)) (so_far.queued j h)
-        queued j (inr h) l = let e : j ≡ tail = omega arith in subst (λ (n : ℕ). (n ≡ x) ⊎ (In X n × Walk g X w plan k n x)) (sym (ap (λ (i : ℕ). get_or queue' i 0) e ∙ end)) (inr (inside, walk))
-
         walks : (n : ℕ) → In X n → Out (members left') n → (n ≡ from) ⊎ (n ≡ from → ⊥) → Walk g X w plan k n x
         walks n y o (inl e) = subst (λ (j : ℕ). Walk g X w plan k j x) (sym e) walk
-        walks n y o (inr d) = so_far.walks n y (was_out n o d)
-
-        listed : (n : ℕ) → In X n → Out (members left') n → (n ≡ from) ⊎ (n ≡ from → ⊥) → Passed queue' (tail + 1) n
-        listed n y o (inl e) = (tail, omega arith, end ∙ sym e)
-        listed n y o (inr d) = let t = so_far.listed n y (was_out n o d) in (t.0, omega (arith, t.1), front t.0 t.1 ∙ t.2)
+        walks n y o (inr d) = so_far.walks n y (removed_still left from left' c.left_is n d o)
 
     joined_waits : Awaits g w plan k to left' ns
     joined_waits n y l step = go (cases_eq n from)
@@ -116,13 +86,13 @@ module _ (g : Game) (w : ℕ) (plan : ℕ → ℕ) (k from to tail : ℕ) (left 
   tracing_step : (r : ℕ) → tail + size left ≤ length queue → Visits g w plan k from to tail left queue left' queue' r → Tracing g X w plan k x (members left') queue' head r × Awaits g w plan k to left' ns
   tracing_step r space (inl t) =
       let s = t.1 in (
-        subst (λ (l : List ℕ). Tracing g X w plan k x (members l) queue' head r) (sym s.left_is) (subst (λ (q : List ℕ). Tracing g X w plan k x (members left) q head r) (sym s.queue_is) (subst (λ (j : ℕ). Tracing g X w plan k x (members left) queue head j) (sym t.0) so_far)),
-        subst (λ (l : List ℕ). Awaits g w plan k to l ns) (sym s.left_is) (remained s),
+        rw (s.left_is, s.queue_is, t.0) so_far,
+        rw s.left_is (remained s),
       )
   tracing_step r space (inr t) =
       let c = t.1 in
       let room : tail < length queue = omega (arith, c.left_is.shrinks (T_true _ c.was)) in
-      (subst (λ (j : ℕ). Tracing g X w plan k x (members left') queue' head j) (sym t.0) (joined room c), joined_waits room c)
+      (rw t.0 (joined room c), joined_waits room c)
 
 -- ---- a search goes by the same claim throughout
 
@@ -159,12 +129,6 @@ visiting_more {s} {t} {u} {to} {items} {i} lists h so_far same visited =
           tracing_step c.graph.now (number c.side) (goes c.answer.now) s.heaviest (get_or items i 0) to t.tail t.left.now t.queue.now u.left.now u.queue.now X x head (may_at c.graph.now to items lists i h) (omega (arith, so_far.went.grows)) comes here.0 (drop (i + 1) items)
           (λ n y b z. subst (λ (l : List ℕ). Among n l) (drop_more items i 0 h) (here.1 n y b z)) u.tail t.room v;
     }
-
-none_among : (n : ℕ) (ns : List ℕ) → ns ≡ [] → Among n ns → ⊥
-none_among n ns e a = go (subst (λ (l : List ℕ). Among n l) e a)
-  where
-    go : Among n [] → ⊥
-    go b = elim b [ ]
 
 pub visiting_all : {s t : SearchBack} {to : ℕ} {items : List ℕ} {i : ℕ} → length items ≤ i → Visiting s to items i t → Searched s to t
 visiting_all {s} {t} {to} {items} {i} h so_far X x head o c work =

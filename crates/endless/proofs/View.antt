@@ -3,7 +3,7 @@ use Rattle.std.proofs.Common.{◌≡◌, ℕ, ◌<◌, List, [], ◌∷◌, leng
 use Rattle.std.proofs.lemmas.List.{take_at, drop_at}
 use Rattle.endless.specs.Games.{Game, Reads, row}
 use Rattle.endless.specs.Graph.{Reading, Placed}
-use Rattle.endless.specs.View.{places_in, game_in, words_of, Playable}
+use Rattle.endless.specs.View.{places_in, game_in, words_of}
 
 pub places_in_row : (g : Game) → places_in (length g) (row g) ≡ g
 unfolding places_in
@@ -25,9 +25,6 @@ reads_in s g r = subst (Reads s) (sym (game_in_reads s g r)) r
 module _ {s : List ℕ} {g : Game} (e : game_in s ≡ g) (r : Reads s (game_in s)) where
   pub words_are : s ≡ words_of g
   words_are = r.is ∙ ap words_of e
-
-  pub playable : Playable g
-  playable = record { is = refl; fine = (subst (Reads s) e r).fine }
 
 -- where a place's words start, which a view of the game g has written down
 pub start_of : {starts : List ℕ} {h g : Game} → h ≡ g → Placed h starts → {n at : ℕ} → n < length g → at ≡ get_or starts n 0 → Reading (words_of h) h n at

@@ -1,5 +1,5 @@
 -- The state of an attractor's work over one step: a place is looked at, and stays or comes.
-use Rattle.std.proofs.Common.{◌≡◌, ℕ, ◌+◌, ◌*◌, ◌<◌, ◌≤◌, Bool, not, ◌&&◌, T, ◌⊎◌, List, [], ◌∷◌, length, get_or, set, sym, refl, ap, ◌∙◌, subst, inl, inr, arith}
+use Rattle.std.proofs.Common.{◌≡◌, ℕ, ◌+◌, ◌*◌, ◌<◌, ◌≤◌, Bool, not, ◌&&◌, T, ◌⊎◌, List, [], ◌∷◌, length, get_or, set, sym, refl, ap, ◌∙◌, subst, ⊎_elim, inl, inr, arith}
 use mathlib.Core.Option.{Option}
 use Rattle.std.proofs.lemmas.List.{get_or-set_same, get_or-set_other, get_or_past, length-set}
 use Rattle.std.proofs.lemmas.Bool.{cases_eq, cases_lt, eq-eqb, ne_eqb, both_ways}
@@ -13,6 +13,7 @@ use Rattle.endless.proofs.Tests.{T_true}
 use Rattle.endless.proofs.Nth.{nth_in, nth_out}
 use Rattle.endless.proofs.Sets.{minus_in, minus_out}
 use Rattle.endless.proofs.SetLaws.{size_none}
+use Rattle.endless.proofs.Pushed.{pushed_front, pushed_before, pushed_last, pushed_each, pushed_passed}
 use Rattle.endless.proofs.Attracting.{Comes}
 use Rattle.endless.proofs.Pulling.{pulling_none, pulling_next, pulling_all, pulling_as, pulling_skip, pulling_stays, pulling_comes}
 
@@ -78,9 +79,27 @@ module _ (l : List ℕ) (k : ℕ) (r : List ℕ) (rem : Removed l k r) where
       go (inl e) = inl e
       go (inr d) = inr (subst T (sym (removed_else n d)) x)
 
+  -- what is gone, but for that place, was not there before
+  pub removed_still : (n : ℕ) → (n ≡ k → ⊥) → Out (members r) n → Out (members l) n
+  removed_still n d o x = o (subst T (sym (removed_else n d)) x)
+
 -- nothing moved
 pub moved_none : (left queue out : List ℕ) (tail : ℕ) → Moved left queue out tail left queue out tail
 moved_none left queue out tail = record { counts = refl; grows = omega arith; less = λ n x. x; front = λ j h. refl; came = λ j a b. absurd (omega arith); frame = λ n x. (refl, refl) }
+
+-- one place moved
+pub moved_one : (left queue out : List ℕ) (tail from : ℕ) (left' queue' out' : List ℕ) → tail + size left ≤ length queue → In (members left) from → Removed left from left' → queue' ≡ set queue tail from → ((n : ℕ) → (n ≡ from → ⊥) → Unchanged out out' n) → Moved left queue out tail left' queue' out' (tail + 1)
+moved_one left queue out tail from left' queue' out' space was rem q same = record {
+  counts = omega (arith, rem.shrinks (T_true _ was));
+  grows = omega arith;
+  less = removed_within left from left' rem;
+  front = pushed_front queue tail from q;
+  came = λ j low high.
+      let e : j ≡ tail = omega arith in
+      let room : tail < length queue = omega (arith, rem.shrinks (T_true _ was)) in
+      subst (λ (n : ℕ). In (members left) n) (sym (ap (λ (i : ℕ). get_or queue' i 0) e ∙ pushed_last queue tail from q room)) was;
+  frame = λ n x. same n (λ e. removed_out left from left' rem (subst (λ (j : ℕ). In (members left') j) e (x (subst (λ (j : ℕ). In (members left) j) (sym e) was))));
+}
 
 -- two times
 pub moved_then : (l q o : List ℕ) (t : ℕ) (l' q' o' : List ℕ) (t' : ℕ) (l'' q'' o'' : List ℕ) (t'' : ℕ) → Moved l q o t l' q' o' t' → Moved l' q' o' t' l'' q'' o'' t'' → Moved l q o t l'' q'' o'' t''
@@ -105,21 +124,10 @@ module _ (g : Game) (w from to tail : ℕ) (left queue out left' queue' out' : L
   pub pulled_moves : (r : ℕ) → 2 * from + 1 < length out → tail + size left ≤ length queue → Pulled g w from to tail left queue out left' queue' out' r → Moved left queue out tail left' queue' out' r
   pulled_moves r room space (inl t) =
       let s = t.1 in
-      subst (λ (l : List ℕ). Moved left queue out tail l queue' out' r) (sym s.left_is) (subst (λ (q : List ℕ). Moved left queue out tail left q out' r) (sym s.queue_is) (subst (λ (o : List ℕ). Moved left queue out tail left queue o r) (sym s.out_is) (subst (λ (k : ℕ). Moved left queue out tail left queue out k) (sym t.0) (moved_none left queue out tail))))
+      rw (s.left_is, s.queue_is, s.out_is, t.0) (moved_none left queue out tail)
   pulled_moves r room space (inr t) =
       let c = t.1 in
-      let shrinks = c.left_is.shrinks (T_true _ c.was) in
-      record {
-        counts = omega (arith, t.0, shrinks);
-        grows = omega (arith, t.0);
-        less = removed_within left from left' c.left_is;
-        front = λ j h. ap (λ (q : List ℕ). get_or q j 0) c.queue_is ∙ get_or-set_other queue tail j from 0 (omega arith);
-        came = λ j low high.
-            let e : j ≡ tail = omega (arith, t.0) in
-            let s : tail < length queue = omega arith in
-            subst (λ (n : ℕ). In (members left) n) (sym (ap (λ (i : ℕ). get_or queue' i 0) e ∙ ap (λ (q : List ℕ). get_or q tail 0) c.queue_is ∙ get_or-set_same queue tail from 0 s)) c.was;
-        frame = λ n x. subst (λ (o : List ℕ). Unchanged out o n) (sym c.out_is) (put_unchanged out from w to room n (λ e. removed_out left from left' c.left_is (subst (λ (j : ℕ). In (members left') j) e (x (subst (λ (j : ℕ). In (members left) j) (sym e) c.was)))));
-      }
+      rw t.0 (moved_one left queue out tail from left' queue' out' space c.was c.left_is c.queue_is (λ n d. subst (λ (o : List ℕ). Unchanged out o n) (sym c.out_is) (put_unchanged out from w to room n d)))
 
   module _ (U D : Set) (head : ℕ) (ns : List ℕ) (may : May g from to) (in-to : In U to) (out-to : Out (members left) to) (work : Working g U w D left queue out head tail (from ∷ ns)) where
     stayed : Stayed g w from left queue out left' queue' out' → Working g U w D left queue out head tail ns
@@ -139,12 +147,6 @@ module _ (g : Game) (w from to tail : ℕ) (left queue out left' queue' out' : L
       not_left : (n : ℕ) → In U n → Out (members left) n → n ≡ from → ⊥
       not_left n u o e = o (subst (λ (j : ℕ). In (members left) j) (sym e) c.was)
 
-      front : (j : ℕ) → j < tail → get_or queue' j 0 ≡ get_or queue j 0
-      front j h = ap (λ (q : List ℕ). get_or q j 0) c.queue_is ∙ get_or-set_other queue tail j from 0 (omega arith)
-
-      last : get_or queue' tail 0 ≡ from
-      last = ap (λ (q : List ℕ). get_or q tail 0) c.queue_is ∙ get_or-set_same queue tail from 0 space
-
       comes : Comes g U w (minus U (members left)) from
       comes = record {
         inside = work.pulling.left from c.was;
@@ -158,40 +160,27 @@ module _ (g : Game) (w from to tail : ℕ) (left queue out left' queue' out' : L
       unfolding comes
       came = record {
         order = omega (arith, work.order);
-        pulling = pulling_as g U w D (members left') (Passed queue head) (goes out') (Passed queue' head) ns (λ n p. (p.0, p.1, sym (front p.0 (omega (arith, p.1, work.order))) ∙ p.2))
+        pulling = pulling_as g U w D (members left') (Passed queue head) (goes out') (Passed queue' head) ns (λ n p. pushed_before queue tail from c.queue_is head n work.order p)
             (pulling_comes g U w D (members left) (Passed queue head) (goes out) from ns work.pulling (members left') (goes out') comes (removed_out left from left' c.left_is) (removed_within left from left' c.left_is) (removed_which left from left' c.left_is) (λ e. ap (λ (o : List ℕ). goes o from) c.out_is ∙ put_goes out from w to room) (λ n u o. unchanged_goes out out' n (same_words n (not_left n u o))));
-        queued = λ j h. queued j (cases_lt j tail) h;
-        listed = λ n u o. listed n u o (cases_eq n from);
+        queued = pushed_each queue tail from c.queue_is space (λ n. In U n × Out (members left') n)
+            (λ j h. let t = work.queued j h in (t.0, λ x. t.1 (removed_within left from left' c.left_is (get_or queue j 0) x)))
+            (work.pulling.left from c.was, removed_out left from left' c.left_is);
+        listed = λ n u o. pushed_passed queue tail from c.queue_is space n (⊎_elim (λ e. inl e) (λ d. inr (work.listed n u (removed_still left from left' c.left_is n d o))) (cases_eq n from));
         labelled = λ n u d o. labelled n u d o (cases_eq n from);
       }
         where
-          queued : (j : ℕ) → (j < tail) ⊎ (tail ≤ j) → j < tail + 1 → In U (get_or queue' j 0) × Out (members left') (get_or queue' j 0)
-          queued j (inl h) l = let t = work.queued j h in subst (λ (n : ℕ). In U n × Out (members left') n) (sym (front j h)) (t.0, λ x. t.1 (removed_within left from left' c.left_is (get_or queue j 0) x))
-          queued j (inr h) l = let e : j ≡ tail = omega arith in subst (λ (n : ℕ). In U n × Out (members left') n) (sym (ap (λ (i : ℕ). get_or queue' i 0) e ∙ last)) (work.pulling.left from c.was, removed_out left from left' c.left_is)
-
-          was_out : (n : ℕ) → Out (members left') n → (n ≡ from → ⊥) → Out (members left) n
-          was_out n o d x = go (removed_which left from left' c.left_is n x)
-            where
-              go : (n ≡ from) ⊎ In (members left') n → ⊥
-              go (inl e) = d e
-              go (inr y) = o y
-
-          listed : (n : ℕ) → In U n → Out (members left') n → (n ≡ from) ⊎ (n ≡ from → ⊥) → Passed queue' (tail + 1) n
-          listed n u o (inl e) = (tail, omega arith, last ∙ sym e)
-          listed n u o (inr d) = let t = work.listed n u (was_out n o d) in (t.0, omega (arith, t.1), front t.0 t.1 ∙ t.2)
-
           labelled : (n : ℕ) → In U n → Out D n → Out (members left') n → (n ≡ from) ⊎ (n ≡ from → ⊥) → side out' n ≡ w
           labelled n u d o (inl e) = ap (side out') e ∙ ap (λ (x : List ℕ). side x from) c.out_is ∙ put_side out from w to room
-          labelled n u d o (inr e) = same_side out out' n same_length (same_words n e) ∙ work.labelled n u d (was_out n o e)
+          labelled n u d o (inr e) = same_side out out' n same_length (same_words n e) ∙ work.labelled n u d (removed_still left from left' c.left_is n e o)
 
     -- the state after
     pub working_step : (r : ℕ) → 2 * from + 1 < length out → tail + size left ≤ length queue → Pulled g w from to tail left queue out left' queue' out' r → Working g U w D left' queue' out' head r ns
     working_step r room space (inl t) =
         let s = t.1 in
-        subst (λ (l : List ℕ). Working g U w D l queue' out' head r ns) (sym s.left_is) (subst (λ (q : List ℕ). Working g U w D left q out' head r ns) (sym s.queue_is) (subst (λ (o : List ℕ). Working g U w D left queue o head r ns) (sym s.out_is) (subst (λ (k : ℕ). Working g U w D left queue out head k ns) (sym t.0) (stayed s))))
+        rw (s.left_is, s.queue_is, s.out_is, t.0) (stayed s)
     working_step r room space (inr t) =
         let c = t.1 in
-        subst (λ (k : ℕ). Working g U w D left' queue' out' head k ns) (sym t.0) (came room (omega (arith, c.left_is.shrinks (T_true _ c.was))) c)
+        rw t.0 (came room (omega (arith, c.left_is.shrinks (T_true _ c.was))) c)
 
 -- before the first
 pub working_none : (g : Game) (U : Set) (w : ℕ) (D : Set) (left queue out : List ℕ) (targets : ℕ) → Subgame g U → Starts U D left queue targets → Working g U w D left queue out 0 targets []

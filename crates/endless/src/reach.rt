@@ -37,11 +37,9 @@ pub fn attract_to(
     ensures { ReachPost words.now (length work.old) (number side) target.0 out.old out.new result }
 {
     let accepted = layout::accept(words, work)?;
-    if target.0 >= accepted.game.len() {
-        return Err(Refusal::NoPlace);
-    }
+    let target = accepted.index(target)?;
     layout::out_room(accepted.game.len(), out.len())?;
-    divide_game(accepted, side, target.0, out);
+    divide_game(accepted, side, target, out);
     Ok(())
 }
 

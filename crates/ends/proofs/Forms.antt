@@ -1,14 +1,10 @@
 -- Words that are a game with ends, and the words of what is made of it.
-use Rattle.std.proofs.Common.{◌≡◌, ℕ, zero, suc, ◌+◌, ◌<◌, ◌≤◌, Bool, true, false, ◌&&◌, T, ltb, leb, List, [], ◌∷◌, length, sym, refl, ap, subst, arith, le→leb, ltb→lt, lt→ltb, leb→le}
+use Rattle.std.proofs.Common.{◌≡◌, ℕ, zero, suc, ◌+◌, ◌<◌, ◌≤◌, ◌&&◌, T, ltb, leb, List, [], ◌∷◌, length, sym, refl, ap, subst, arith, le→leb, ltb→lt, lt→ltb, leb→le}
 use Rattle.endless.specs.Games.{Place, Game, Reads, below, ok_ps, some_of, pick, row, whose, weight, other}
-use Rattle.endless.proofs.Reading.{both}
+use Rattle.endless.proofs.Tests.{both, from_both}
 use Rattle.endless.proofs.Places.{Fine, ok_parts, ok_from, ok_size, other_below}
 use Rattle.ends.specs.Ends.{ok_ends, ReadsEnds, mended, made_from, made}
 use Rattle.ends.specs.Mending.{Light}
-
-from_both : (a b : Bool) → T a → T b → T (a && b)
-from_both true b t u = u
-from_both false b t u = t
 
 -- a place that fits in a game with ends of n places
 pub record Fits (n : ℕ) (p : Place) : Type 0 where

@@ -2,9 +2,10 @@
 use Rattle.std.proofs.Common.{◌≡◌, ℕ, zero, suc, ◌+◌, ◌-◌, ◌%◌, ◌<◌, Bool, true, false, ◌⊎◌, List, [], ◌∷◌, length, sym, refl, ap, ◌∙◌, subst, inl, inr, arith}
 use mathlib.Core.Option.{Option, some, none}
 use Rattle.std.proofs.lemmas.Bool.{cases_eq}
-use Rattle.endless.specs.Games.{Place, Game, nth, opt, pick, some_of, whose, weight, Among, first, later, May, Play, Plays, ByPlan, Wins, other}
+use Rattle.endless.specs.Games.{Place, Game, nth, opt, pick, some_of, whose, weight, Among, May, Play, Plays, ByPlan, Wins, other}
 use Rattle.endless.specs.Graph.{moves}
 use Rattle.endless.specs.Says.{WinsFrom}
+use Rattle.endless.proofs.Among.{none_among, only_among}
 use Rattle.endless.proofs.Places.{is_other}
 use Rattle.ends.specs.Ends.{NoMoves, PlaysEnd, ByPlanEnd, WinsEnd, WinsFromEnds, mended, made_from, made}
 
@@ -38,10 +39,6 @@ pub record Loops (g : Game) (n : ℕ) : Type 0 where
   pub goes : moves (made g) n ≡ n ∷ []
   pub weighs : weight (made g) n ≡ other (whose g n)
 
-not_among : (m : ℕ) (xs : List ℕ) → xs ≡ [] → Among m xs → ⊥
-not_among m [] e a = elim a [ ]
-not_among m (x ∷ xs) e a = let z : ◌≡◌ {A = ℕ} 0 1 = cc in omega arith
-
 pub kind : (g : Game) (n : ℕ) → Kept g n ⊎ Loops g n
 unfolding mend_at
 kind g n = at (nth g n) refl
@@ -51,7 +48,7 @@ kind g n = at (nth g n) refl
 
     with_moves : (p : Place) (xs : List ℕ) → p.moves ≡ xs → nth g n ≡ some p → nth (made g) n ≡ some (pick (some_of xs) p (record { whose = p.whose; weight = other p.whose; moves = n ∷ [] })) → Kept g n ⊎ Loops g n
     with_moves p [] x e f = inr (record {
-      ends = (nth_some g n p e, λ m. not_among m (moves g n) (ap (λ (o : Option Place). opt o [] (λ q. q.moves)) e ∙ x));
+      ends = (nth_some g n p e, λ m. none_among m (moves g n) (ap (λ (o : Option Place). opt o [] (λ q. q.moves)) e ∙ x));
       goes = ap (λ (o : Option Place). opt o [] (λ q. q.moves)) f;
       weighs = ap (λ (o : Option Place). opt o 0 (λ q. q.weight)) f ∙ sym (ap (λ (o : Option Place). other (opt o 0 (λ q. q.whose))) e);
     })
@@ -90,12 +87,8 @@ moving g n m a = of (kind g n)
     of (inl k) = k
     of (inr l) = absurd (l.ends.1 m a)
 
-itself : (m n : ℕ) → Among m (n ∷ []) → m ≡ n
-itself m n first = refl
-itself m n (later a) = elim a [ ]
-
 loops_to : {g : Game} {n : ℕ} → Loops g n → (m : ℕ) → May (made g) n m → m ≡ n
-loops_to {g} {n} l m a = itself m n (subst (λ (xs : List ℕ). Among m xs) l.goes a)
+loops_to {g} {n} l m a = only_among m n (subst (λ (xs : List ℕ). Among m xs) l.goes a)
 
 other_other : (w : ℕ) → w < 2 → other (other w) ≡ w
 other_other zero h = refl

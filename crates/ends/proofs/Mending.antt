@@ -1,27 +1,13 @@
 -- Copying the words of a game with ends place by place: what is read so far and made of it, and what is left.
-use Rattle.std.proofs.Common.{◌≡◌, ℕ, suc, ◌+◌, ◌-◌, ◌<◌, ◌≤◌, Bool, cond, ltb, List, [], ◌∷◌, ◌++◌, length, get_or, take, drop, set, sym, refl, ap, ◌∙◌, subst, arith}
-use Rattle.std.proofs.lemmas.List.{drop_more, drop-drop, drop_all, append-nil, append_assoc, length-append, length-drop, take_rest, take_more_set, take-append-drop, get_or_past, length-take-le}
-use Rattle.std.proofs.lemmas.Bool.{le-ltb}
+use Rattle.std.proofs.Common.{◌≡◌, ℕ, suc, ◌+◌, ◌-◌, ◌<◌, ◌≤◌, List, [], ◌∷◌, ◌++◌, length, get_or, take, drop, set, sym, refl, ap, ◌∙◌, subst, arith}
+use Rattle.std.proofs.lemmas.List.{drop_more, drop-drop, append-nil, append_assoc, length-append, length-drop, take_more_set, take-append-drop, length-take-le}
 use Rattle.endless.specs.Games.{Place, Game, row, some_of, pick, weight, other}
 use Rattle.endless.specs.Graph.{moves, Reading}
 use Rattle.endless.proofs.Reading.{front_many, reading_next}
 use Rattle.ends.specs.declared.mend.Copied.{Copied}
 use Rattle.ends.specs.Ends.{ReadsEnds, mended, made_from, made}
-use Rattle.ends.specs.Says.{told}
-use Rattle.ends.specs.Mending.{Light, Mended, Copies}
+use Rattle.ends.specs.Mending.{Light, Copies}
 use Rattle.ends.proofs.Forms.{weight_fits}
-
--- ---- the head of a place
-
-abbrev pub Slice : List ℕ → ℕ → List ℕ
-Slice s at = take (length s - at) (drop at s)
-
-three_front : (l : List ℕ) → 3 ≤ length l → l ≡ get_or l 0 0 ∷ get_or l 1 0 ∷ get_or l 2 0 ∷ drop 3 l
-three_front l h = let a : 0 < length l = omega arith in let b : 1 < length l = omega arith in
-    drop_more l 0 0 a ∙ ap (λ (r : List ℕ). get_or l 0 0 ∷ r) (drop_more l 1 0 b ∙ ap (λ (r : List ℕ). get_or l 1 0 ∷ r) (drop_more l 2 0 h))
-
-pub head_words : (s : List ℕ) (at : ℕ) → 3 ≤ length (Slice s at) → drop at s ≡ get_or (Slice s at) 0 0 ∷ get_or (Slice s at) 1 0 ∷ get_or (Slice s at) 2 0 ∷ drop (at + 3) s
-head_words s at h = sym (take_rest s at) ∙ three_front (Slice s at) h ∙ ap (λ (l : List ℕ). get_or (Slice s at) 0 0 ∷ get_or (Slice s at) 1 0 ∷ get_or (Slice s at) 2 0 ∷ l) (ap (drop 3) (take_rest s at) ∙ drop-drop 3 at s)
 
 -- the words behind a place of a game
 next_place : (s : List ℕ) (at w k m : ℕ) (rest : List ℕ) → drop at s ≡ w ∷ k ∷ m ∷ rest → (g : Game) (i : ℕ) → i < length g → Reading s g i at → Reading s g (i + 1) (at + (3 + m))
@@ -135,31 +121,3 @@ mending_more s t n i at to t' c h e m k =
 -- no place stands there
 pub mending_stops : (s t : List ℕ) (n i at to : ℕ) → i < n → n ≡ get_or s 0 0 → Mending s t n i at to → ((g : Game) → i < length g → weight g i < 256 → Reading s g i at → ⊥) → (g : Game) → ReadsEnds s g → ⊥
 mending_stops s t n i at to h e m none g r = none g (let z : n ≡ length g = e ∙ ap (λ (l : List ℕ). get_or l 0 0) r.is in omega arith) (weight_fits r i) (m.left g r)
-
-pub told_none : (s : List ℕ) → length s ≤ 0 → 0 ≡ told s
-told_none s h = let e : get_or s 0 0 ≡ 0 = get_or_past s 0 0 h in
-    sym (ap (λ (x : ℕ). cond (ltb 16384 x) 16384 x) e ∙ ap (λ (b : Bool). cond b 16384 0) (le-ltb 16384 0 (omega arith)))
-
-pub told_small : (s : List ℕ) (n : ℕ) → n ≡ get_or s 0 0 → n ≤ 16384 → told s ≡ n
-told_small s n e h = ap (λ (b : Bool). cond b 16384 (get_or s 0 0)) (le-ltb 16384 (get_or s 0 0) (omega arith)) ∙ sym e
-
--- all are read
-pub mending_all : (s t : List ℕ) (n i at to : ℕ) → i ≡ n → n ≡ get_or s 0 0 → n ≤ 16384 → length s + told s ≤ length t → Mending s t n i at to → at ≡ length s → Mended s t to
-mending_all s t n i at to all e h room m end =
-    let size : n ≡ length m.places = omega (arith, m.count) in
-    let same = told_small s n e h in
-    record {
-      game = m.places;
-      is = m.is ∙ ap (λ (l : List ℕ). (n ∷ row m.places) ++ l) (drop_all at s (omega arith)) ∙ append-nil (n ∷ row m.places) ∙ ap (λ (x : ℕ). x ∷ row m.places) size;
-      made_is = m.made_is ∙ ap (λ (x : ℕ). x ∷ row (made m.places)) size;
-      light = m.light;
-      long = omega (arith, m.room);
-      within = omega (arith, m.room);
-    }
-
--- and something stands behind
-pub mending_behind : (s t : List ℕ) (n i at to : ℕ) → i ≡ n → n ≡ get_or s 0 0 → Mending s t n i at to → (at ≡ length s → ⊥) → (g : Game) → ReadsEnds s g → ⊥
-mending_behind s t n i at to all e m more g r =
-    let size : n ≡ length g = e ∙ ap (λ (l : List ℕ). get_or l 0 0) r.is in
-    let nothing : drop at s ≡ [] = (m.left g r).left ∙ ap row (drop_all i g (omega arith)) in
-    more (omega (arith, m.within, length-drop at s, ap length nothing))

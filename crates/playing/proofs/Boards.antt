@@ -60,12 +60,6 @@ wins a Even = a.even
 wins a Odd = a.odd
 
 module _ {g : Game} {o : List ℕ} (answered : Answered g o) (w : Side) (n choice : ℕ) (here : n < length g) where
-  -- by the plan
-  pub stepped_plan : (m : ℕ) → ByPlanHere g o (number w) n → m ≡ goes o n → Stepped g o (number w) n choice m
-  stepped_plan m by e =
-      let t = (wins answered w).may n (here, by.1) by.0 in
-      subst (Stepped g o (number w) n choice) (sym e) (record { may = t.0; planned = λ _. refl; chosen = λ d. absurd (d by); stays = λ _. t.1.1; within = t.1.0 })
-
   -- by choice
   pub stepped_choice : (ByPlanHere g o (number w) n → ⊥) → choice < length (moves g n) → All (λ m. m < length g) (moves g n) → Stepped g o (number w) n choice (get_or (moves g n) choice 0)
   stepped_choice d h within =

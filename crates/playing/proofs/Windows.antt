@@ -1,20 +1,17 @@
 -- The last weights of a list and their counts, as a weight comes.
 use Rattle.std.proofs.Common.{◌≡◌, ℕ, ◌+◌, ◌-◌, ◌<◌, ◌≤◌, eqb, ◌⊎◌, List, [], ◌∷◌, ◌++◌, length, get_or, take, drop, Some, None, Option, sym, refl, ap, ◌∙◌, subst, inl, inr, append_assoc, arith}
 use Rattle.std.proofs.lemmas.List.{length-drop, length-append, drop-drop, drop-append-le, take_more, get_or-set_same, get_or-set_other}
-use Rattle.std.proofs.lemmas.Bool.{cases_eq, cases_lt, eq-eqb, ne_eqb}
+use Rattle.std.proofs.lemmas.Bool.{cases_eq, cases_lt}
 use Rattle.endless.specs.Graph.{times}
-use Rattle.endless.proofs.CountLaws.{one_if}
+use Rattle.endless.proofs.CountLaws.{one_if, one_itself, one_other}
 use Rattle.endless.proofs.Sources.{times_append, times_among, among_times}
 use Rattle.playing.specs.Windows.{more, less, latest, Tells, Light, HeaviestIs, GreatestIs}
-
-one_at : (x : ℕ) → one_if (eqb x x) ≡ 1
-one_at x = ap one_if (eq-eqb x x refl)
 
 -- ---- the heaviest
 
 none_empty : (xs : List ℕ) → ((k : ℕ) → times k xs ≡ 0) → xs ≡ []
 none_empty [] h = refl
-none_empty (x ∷ xs) h = absurd (omega (arith, h x, one_at x))
+none_empty (x ∷ xs) h = absurd (omega (arith, h x, one_itself x x refl))
 
 module _ (weights counts : List ℕ) (kinds : length counts ≡ 256) (tells : Tells counts weights) (light : Light weights) where
   pub heaviest_told : (r : Option ℕ) → GreatestIs counts r → HeaviestIs weights r
@@ -35,9 +32,6 @@ module _ (weights counts : List ℕ) (kinds : length counts ≡ 256) (tells : Te
 
 -- ---- one weight more, and one less
 
-none_at : (x k : ℕ) → (x ≡ k → ⊥) → one_if (eqb x k) ≡ 0
-none_at x k d = ap one_if (ne_eqb x k d)
-
 times_one : (k x : ℕ) → times k (x ∷ []) ≡ one_if (eqb x k)
 times_one k x = omega arith
 
@@ -51,8 +45,8 @@ added counts x k h = go (cases_eq k x)
     go : (k ≡ x) ⊎ (k ≡ x → ⊥) → get_or (more x counts) k 0 ≡ get_or counts k 0 + one_if (eqb x k)
     go (inl e) =
         subst (λ j. get_or (more x counts) j 0 ≡ get_or counts j 0 + one_if (eqb x j)) (sym e)
-        (omega (arith, get_or-set_same counts x (get_or counts x 0 + 1) 0 h, one_at x))
-    go (inr d) = omega (arith, get_or-set_other counts x k (get_or counts x 0 + 1) 0 d, none_at x k (λ e. d (sym e)))
+        (omega (arith, get_or-set_same counts x (get_or counts x 0 + 1) 0 h, one_itself x x refl))
+    go (inr d) = omega (arith, get_or-set_other counts x k (get_or counts x 0 + 1) 0 d, one_other x k (λ e. d (sym e)))
 
 -- a count of one less at x
 pub taken : (counts : List ℕ) (x k : ℕ) → x < length counts → 0 < get_or counts x 0 → get_or (less x counts) k 0 + one_if (eqb x k) ≡ get_or counts k 0
@@ -61,12 +55,12 @@ taken counts x k h some = go (cases_eq k x)
     go : (k ≡ x) ⊎ (k ≡ x → ⊥) → get_or (less x counts) k 0 + one_if (eqb x k) ≡ get_or counts k 0
     go (inl e) =
         subst (λ j. get_or (less x counts) j 0 + one_if (eqb x j) ≡ get_or counts j 0) (sym e)
-        (omega (arith, get_or-set_same counts x (get_or counts x 0 - 1) 0 h, one_at x))
-    go (inr d) = omega (arith, get_or-set_other counts x k (get_or counts x 0 - 1) 0 d, none_at x k (λ e. d (sym e)))
+        (omega (arith, get_or-set_same counts x (get_or counts x 0 - 1) 0 h, one_itself x x refl))
+    go (inr d) = omega (arith, get_or-set_other counts x k (get_or counts x 0 - 1) 0 d, one_other x k (λ e. d (sym e)))
 
 module _ (weights : List ℕ) (x : ℕ) (small : x < 256) where
   pub light_push : Light weights → Light (weights ++ x ∷ [])
-  light_push light k h = omega (arith, times_push k x weights, light k h, none_at x k (λ e. omega arith))
+  light_push light k h = omega (arith, times_push k x weights, light k h, one_other x k (λ e. omega arith))
 
   pub tells_push : (counts : List ℕ) → length counts ≡ 256 → Tells counts weights → Tells (more x counts) (weights ++ x ∷ [])
   tells_push counts kinds tells k h = omega (arith, times_push k x weights, tells k h, added counts x k (omega arith))
@@ -76,7 +70,7 @@ module _ (x : ℕ) (weights : List ℕ) where
   light_pop light k h = omega (arith, light k h)
 
   pub some_first : (counts : List ℕ) → x < 256 → Tells counts (x ∷ weights) → 0 < get_or counts x 0
-  some_first counts small tells = omega (arith, tells x small, one_at x)
+  some_first counts small tells = omega (arith, tells x small, one_itself x x refl)
 
   pub tells_pop : (counts : List ℕ) → length counts ≡ 256 → x < 256 → Tells counts (x ∷ weights) → Tells (less x counts) weights
   tells_pop counts kinds small tells k h = omega (arith, tells k h, taken counts x k (omega arith) (some_first counts small tells))

@@ -9,11 +9,11 @@ pub returns : goal.returns
 returns c =
     let t = c.in_ok-accepted.ensures in
     let g = c.in_ok-accepted.accepted.game in
-    said t.0 (λ e. cc) (
+    rw (← c.in_ok-target.ensures.0) (said t.0 (λ e. cc) (
       g,
       t.1,
       omega arith,
       omega (arith, c.in_ok-out_room.ensures),
       numbers t.1 (number_below c.args.side) c.measure.ensures.measured,
       behind_same c.args.out.now c.measure.new.out (length g) (omega arith) c.measure.ensures.behind,
-    )
+    ))

@@ -9,10 +9,11 @@ returns-in_err-accepted c =
     let p = err_from_is_err_and c.from_residual.result c.from_residual.ensures.1 in
     rw (p.1, p.2) (unaccepted _ c.in_err-accepted.ensures)
 
-pub returns-then-target-len : goal.returns-then-target-len
-returns-then-target-len c =
+pub returns-in_err-target : goal.returns-in_err-target
+returns-in_err-target c =
     let t = c.in_ok-accepted.ensures in
-    reached t.0 (λ e. cc) (c.in_ok-accepted.accepted.game, t.1, omega (arith, c.len.ensures.len), refl)
+    let p = err_from_is_err_and c.from_residual-in_err-target.result c.from_residual-in_err-target.ensures.1 in
+    rw (p.1, p.2, c.in_err-target.ensures.0) (reached t.0 (λ e. cc) (c.in_ok-accepted.accepted.game, t.1, c.in_err-target.ensures.1, refl))
 
 pub returns-in_err-out_room : goal.returns-in_err-out_room
 returns-in_err-out_room c =
@@ -24,11 +25,11 @@ pub returns : goal.returns
 returns c =
     let t = c.in_ok-accepted.ensures in
     let g = c.in_ok-accepted.accepted.game in
-    reached t.0 (λ e. cc) (
+    rw (← c.in_ok-target.ensures.0) (reached t.0 (λ e. cc) (
       g,
       t.1,
       omega arith,
       omega (arith, c.in_ok-out_room.ensures),
       c.divide_game.ensures.reaches,
       behind_same c.args.out.now c.divide_game.new.out (length g) (omega arith) c.divide_game.ensures.frame,
-    )
+    ))

@@ -1,42 +1,24 @@
 use Rattle.std.proofs.Common.{◌+◌, ◌-◌, length, take, drop, ap, ◌∙◌, ap₂, arith}
 use Rattle.endless.specs.Graph.{sources}
-use Rattle.endless.proofs.PositionLaws.{position_is}
+use Rattle.endless.proofs.PositionLaws.{position_is, listed_within}
 use Rattle.endless.proofs.Sources.{preds_are}
 use Rattle.endless.proofs.graph.Graph.preds.Goals as goal
 
 pub offset_bounds-self-inside-from : goal.offset_bounds-self-inside-from
 offset_bounds-self-inside-from c =
-    let m = c.args.m in
-    omega (
-      arith,
-      ap length c.self.view_is,
-      c.self.invariant.ordered m,
-      c.self.invariant.bound m,
-      position_is _ m c.position-from.ensures,
-      position_is _ (m + 1) c.position-to.ensures,
-    )
+    let t = listed_within _ c.self.invariant c.self.view_is c.requires c.position-from.ensures c.position-to.ensures in
+    omega (arith, t.0, t.1)
 
 pub slice_bounds-result-count : goal.slice_bounds-result-count
-slice_bounds-result-count c =
-    let m = c.args.m in
-    omega (arith, ap length c.self.view_is, c.self.invariant.ordered m, position_is _ m c.position-from.ensures, position_is _ (m + 1) c.position-to.ensures)
+slice_bounds-result-count c = (listed_within _ c.self.invariant c.self.view_is c.requires c.position-from.ensures c.position-to.ensures).0
 
 pub slice_bounds-result-start : goal.slice_bounds-result-start
 slice_bounds-result-start c =
-    let m = c.args.m in
-    omega (
-      arith,
-      ap length c.self.view_is,
-      c.self.invariant.ordered m,
-      c.self.invariant.bound m,
-      position_is _ m c.position-from.ensures,
-      position_is _ (m + 1) c.position-to.ensures,
-    )
+    let t = listed_within _ c.self.invariant c.self.view_is c.requires c.position-from.ensures c.position-to.ensures in
+    omega (arith, t.0, t.1)
 
 pub slice_bounds-result-end : goal.slice_bounds-result-end
-slice_bounds-result-end c =
-    let m = c.args.m in
-    omega (arith, ap length c.self.view_is, c.self.invariant.bound m, position_is _ (m + 1) c.position-to.ensures)
+slice_bounds-result-end c = (listed_within _ c.self.invariant c.self.view_is c.requires c.position-from.ensures c.position-to.ensures).1
 
 pub returns : goal.returns
 returns c = record {
