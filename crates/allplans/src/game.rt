@@ -9,9 +9,12 @@ use crate::fine::FineGame;
 use crate::side::Side;
 use std::alloc::Global;
 
-// A number of its own: `allplans` shares nothing with the solver but words (docs/AGREE.md).
+// Numbers of its own: `allplans` shares nothing with the solver but words (docs/AGREE.md).
 /// The most places that a game may have.
 pub const MOST_PLACES: usize = 16384;
+
+/// Weights are below this.
+pub(crate) const WEIGHTS: u32 = 256;
 
 /// A place: whose move it is; its weight; where one may move.
 #[derive(Drop)]
@@ -46,7 +49,7 @@ impl Place {
         ensures { IsTrue result → FinePlace places self.now }
     {
         Side::try_from(self.whose).is_ok()
-            && self.weight < 256
+            && self.weight < WEIGHTS
             && !self.moves.is_empty()
             && self.moves.iter().all(|to| (*to as usize) < places)
     }
