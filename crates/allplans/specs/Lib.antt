@@ -6,3 +6,4 @@ pub mod Rounds
 pub mod Checked
 pub mod Sets
 pub mod Walks
+pub mod Distances
