@@ -12,10 +12,14 @@ pub(crate) fn attractor(
     out: &mut [u32],
     work: &mut [u32],
 ) -> Result<(), Refusal> {
-    // No `From`: both types are of other crates.
-    let side = match side {
+    attract_to(words, PlaceId(target), told_side(side), out, work)
+}
+
+/// A side as the library has it.
+// No `From`: both types are of other crates.
+pub(crate) fn told_side(side: Side) -> endless::side::Side {
+    match side {
         Side::Even => endless::side::Side::Even,
         Side::Odd => endless::side::Side::Odd,
-    };
-    attract_to(words, PlaceId(target), side, out, work)
+    }
 }

@@ -8,6 +8,7 @@ use allplans::game::Game;
 use allplans::plays;
 use endless::verdict::Rejection;
 use endless::{check, solve};
+use ends::solve_with_ends;
 use std::alloc::Global;
 
 impl Desk {
@@ -25,12 +26,41 @@ impl Desk {
         if solved.is_err() {
             return Ok(Some(Wrong::NoAnswer));
         }
+        self.change_all(game, Some(words.as_slice()), tally)
+    }
+
+    /// The same of a game in which places may have no moves, at which `check`
+    /// does not look.
+    pub fn try_changes_with_ends(
+        &mut self,
+        game: &Game,
+        tally: &mut Tally,
+    ) -> Result<Option<Wrong>, Fault> {
+        let words = game.words(self.heap)?;
+        let solved = solve_with_ends(
+            words.as_slice(),
+            self.out.as_mut_slice(),
+            self.work.as_mut_slice(),
+        );
+        if solved.is_err() {
+            return Ok(Some(Wrong::NoAnswer));
+        }
+        self.change_all(game, None, tally)
+    }
+
+    /// Changes each word of the answer that was found.
+    fn change_all(
+        &mut self,
+        game: &Game,
+        words: Option<&[u32]>,
+        tally: &mut Tally,
+    ) -> Result<Option<Wrong>, Fault> {
         tally.games = tally.games.saturating_add(1);
         let answer = Answer::read(self.heap, self.answered(game.len()))?;
         let mut changes = Changes {
             heap: self.heap,
             game,
-            words: words.as_slice(),
+            words,
             answer,
             work: self.work.as_mut_slice(),
         };
@@ -40,15 +70,16 @@ impl Desk {
 
 /// An answer to a game, of which one claim at a time is changed.
 #[derive(Drop)]
-struct Changes<'a> {
+struct Changes<'a, 'w> {
     heap: Global,
     game: &'a Game,
-    words: &'a [u32],
+    /// The words of the game, where `check` looks at answers to it.
+    words: Option<&'a [u32]>,
     answer: Answer,
-    work: &'a mut [u32],
+    work: &'w mut [u32],
 }
 
-impl Changes<'_> {
+impl Changes<'_, '_> {
     /// Tries all changes. The last of those of which not all ways say the same.
     fn try_all(&mut self, tally: &mut Tally) -> Result<Option<Wrong>, Fault> {
         let places = u32::try_from(self.game.len())?;
@@ -85,7 +116,7 @@ impl Changes<'_> {
         tally.add(if right { [1, 1, 0] } else { [1, 0, 1] });
         let agreed = (right || self.means(place, claim, changed))
             && self.is_right_by_rounds()? == right
-            && self.is_right_by_check()? == Some(right);
+            && self.check_says(right)?;
         self.put(place, claim);
         if agreed {
             return Ok(None);
@@ -119,17 +150,21 @@ impl Changes<'_> {
         Ok(by_rounds(self.heap, self.game, &self.answer)?.is_none())
     }
 
-    /// What `check` says of the answer; nothing, if it does not look at it.
-    fn is_right_by_check(&mut self) -> Result<Option<bool>, Fault> {
+    /// Whether `check` says of the answer that it is right, or that it is wrong,
+    /// if it looks at such.
+    fn check_says(&mut self, right: bool) -> Result<bool, Fault> {
+        let Some(words) = self.words else {
+            return Ok(true);
+        };
         let mut answer = Vec::new(self.heap);
         for claim in self.answer.claims.iter() {
             answer.extend_from_slice(&[claim.winner, claim.goes])?;
         }
         let work = &mut *self.work;
-        Ok(match check(self.words, answer.as_slice(), work) {
-            Ok(()) => Some(true),
-            Err(Rejection::Wrong(_)) => Some(false),
-            Err(Rejection::Refused(_)) => None,
+        Ok(match check(words, answer.as_slice(), work) {
+            Ok(()) => right,
+            Err(Rejection::Wrong(_)) => !right,
+            Err(Rejection::Refused(_)) => false,
         })
     }
 }

@@ -4,6 +4,7 @@
 
 mod answer;
 mod changes;
+mod distances;
 mod report;
 mod tally;
 mod trial;
@@ -37,6 +38,9 @@ fn run(rt: &HostRuntime) -> Result<(), Error> {
     small(heap, &mut report)?;
     changed(heap, &mut report)?;
     attractors(heap, &mut report)?;
+    soonest(heap, &mut report)?;
+    ended(heap, &mut report)?;
+    ended_changed(heap, &mut report)?;
     hard(heap, &mut report)?;
     large(heap, &mut report)?;
     report.end()
@@ -118,6 +122,69 @@ fn attractors(heap: Global, report: &mut Report) -> Result<(), Error> {
             }
         }
         report.sized("at random, places", places)?;
+    }
+    Ok(())
+}
+
+/// In how many moves each side can make sure of each place of 2,000 games at
+/// random.
+fn soonest(heap: Global, report: &mut Report) -> Result<(), Error> {
+    report.head_of("distances", ["places", "sure", "moves"])?;
+    let mut random = Random::new(1959);
+    for places in 1..9 {
+        for _ in 0..250 {
+            let game = families::at_random(heap, &mut random, places, 1, 3, 2)?;
+            for target in 0..places {
+                report.try_distances(&game, target, Side::Even)?;
+                report.try_distances(&game, target, Side::Odd)?;
+            }
+        }
+        report.sized("at random, places", places)?;
+    }
+    Ok(())
+}
+
+/// 2,000 games at random in which places may have no moves.
+fn ended(heap: Global, report: &mut Report) -> Result<(), Error> {
+    report.head("with ends, by plans and rounds")?;
+    let mut random = Random::new(1913);
+    for places in 1..9 {
+        for _ in 0..50 {
+            for weights in [2, 3, 5, 12, 256] {
+                report.try_ends(&families::at_random_with_ends(
+                    heap,
+                    &mut random,
+                    places,
+                    3,
+                    weights,
+                )?)?;
+            }
+        }
+        report.sized("at random, places", places)?;
+    }
+    Ok(())
+}
+
+/// The same games: each answer with one word changed.
+fn ended_changed(heap: Global, report: &mut Report) -> Result<(), Error> {
+    report.head_of(
+        "with ends, with one word changed",
+        ["answers", "right", "wrong"],
+    )?;
+    let mut random = Random::new(1913);
+    for places in 1..9 {
+        for _ in 0..50 {
+            for weights in [2, 3, 5, 12, 256] {
+                report.try_changes_with_ends(&families::at_random_with_ends(
+                    heap,
+                    &mut random,
+                    places,
+                    3,
+                    weights,
+                )?)?;
+            }
+        }
+        report.changed_line("at random, places", places)?;
     }
     Ok(())
 }

@@ -3,7 +3,7 @@ use crate::tally::Tally;
 use crate::trial::{Desk, Wrong};
 use allplans::checker::Answer;
 use allplans::fault::Fault;
-use allplans::fine::FineGame;
+use allplans::fine::{EndsGame, FineGame};
 use allplans::game::Game;
 use allplans::side::Side;
 use std::alloc::{AllocError, Global};
@@ -16,7 +16,7 @@ pub enum Error {
     Io(io::Error),
     /// So many games disagreed.
     Disagreed(u32),
-    /// So many answers with a winner changed were not refused.
+    /// So many answers with a winner or a number changed were not refused.
     NotRefused(u32),
     /// Of so many answers with a word changed not all ways say the same.
     Disputed(u32),
@@ -130,6 +130,39 @@ impl<'a> Report<'a> {
         Ok(())
     }
 
+    /// Tries the numbers of moves to a place, and prints the game if they are
+    /// wrong.
+    pub fn try_distances(&mut self, game: &FineGame, target: u32, side: Side) -> Result<(), Error> {
+        let game = &game.game;
+        if let Some(wrong) = self
+            .desk
+            .try_distances(game, target, side, &mut self.tally)?
+        {
+            self.show(game, &wrong)?;
+        }
+        Ok(())
+    }
+
+    /// Tries a game in which places may have no moves, and prints it if its
+    /// answer is wrong.
+    pub fn try_ends(&mut self, game: &EndsGame) -> Result<(), Error> {
+        let game = &game.game;
+        if let Some(wrong) = self.desk.try_ends(game, &mut self.tally)? {
+            self.show(game, &wrong)?;
+        }
+        Ok(())
+    }
+
+    /// Tries the answer to such a game with each word changed, and prints it if
+    /// the ways to look at one of these disagree.
+    pub fn try_changes_with_ends(&mut self, game: &EndsGame) -> Result<(), Error> {
+        let game = &game.game;
+        if let Some(wrong) = self.desk.try_changes_with_ends(game, &mut self.tally)? {
+            self.show(game, &wrong)?;
+        }
+        Ok(())
+    }
+
     fn show(&self, game: &Game, wrong: &Wrong) -> Result<(), Error> {
         let words = game.words(self.rt.alloc())?;
         println!(self.rt; "disagreed on {words:?}:")?;
@@ -174,8 +207,8 @@ impl<'a> Report<'a> {
         self.line(name.as_str())
     }
 
-    /// The last lines; an error if a game disagreed, or an answer with a
-    /// winner changed was not refused.
+    /// The last lines; an error if a game disagreed, or an answer with a winner
+    /// or a number changed was not refused.
     pub fn end(&self) -> Result<(), Error> {
         let Tally {
             games,
@@ -184,7 +217,7 @@ impl<'a> Report<'a> {
             ..
         } = self.total;
         println!(self.rt; "{games} games, {disagreed} disagreed")?;
-        println!(self.rt; "{games} answers with one winner changed, {refused} refused")?;
+        println!(self.rt; "{games} answers with one winner or number changed, {refused} refused")?;
         let [answers, _, _] = self.changed.counts;
         let disputed = self.changed.disagreed;
         println!(self.rt; "{answers} answers with one word changed, {disputed} disagreed")?;

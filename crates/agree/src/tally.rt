@@ -10,7 +10,8 @@ pub struct Tally {
     /// and how many of them each side wins.
     pub counts: [u32; 3],
     pub disagreed: u32,
-    /// How many answers were refused after one winner in them was changed.
+    /// How many answers were refused after one winner or number in them was
+    /// changed.
     pub refused: u32,
 }
 

@@ -7,18 +7,19 @@ use crate::answer::attractor;
 use crate::tally::Tally;
 use allplans::checker::{Answer, Claim, Refusal};
 use allplans::fault::Fault;
-use allplans::game::Game;
+use allplans::game::{Game, MOST_PLACES};
 use allplans::plans::Winner;
 use allplans::side::Side;
 use allplans::{checker, plans, reach};
 use endless::verdict::Rejection;
 use endless::{check, solve};
+use ends::solve_with_ends;
 use std::alloc::Global;
 use std::fmt;
 
-/// The most words that a game here has: 16,384 places with three moves each,
-/// or fewer places with more.
-const MOST_WORDS: usize = 1 + 16384 * 6;
+/// The most words that a game here has: as many places as there may be with
+/// three moves each, or fewer places with more.
+const MOST_WORDS: usize = 1 + MOST_PLACES * 6;
 
 /// What was found wrong.
 // In an `Option`, as no error: it is what is asked for here, and `?` passes on why it cannot be told.
@@ -32,6 +33,10 @@ pub enum Wrong {
     Changed { place: usize, claim: Claim },
     /// The attractor of a place for a side is another.
     Attractor { target: u32, side: Side },
+    /// The definition has other numbers of moves to a place for a side.
+    Distances { target: u32, side: Side },
+    /// The plan for a side takes more moves to a place than it tells, or is none.
+    Slower { target: u32, side: Side },
     /// All plans have another winner here.
     Winner(usize),
     /// The checker says so.
@@ -49,6 +54,18 @@ impl fmt::Display for Wrong {
             Wrong::Attractor { target, side } => {
                 write!(f, "another attractor of place {target} for side {side}")
             }
+            Wrong::Distances { target, side } => {
+                write!(
+                    f,
+                    "other numbers of moves to place {target} for side {side}"
+                )
+            }
+            Wrong::Slower { target, side } => {
+                write!(
+                    f,
+                    "more moves by the plan to place {target} for side {side}"
+                )
+            }
             Wrong::Winner(place) => write!(f, "all plans have another winner at place {place}"),
             Wrong::Checker(wrong) => write!(f, "{wrong}"),
         }
@@ -65,7 +82,7 @@ pub struct Desk {
 
 impl Desk {
     pub fn new(heap: Global) -> Result<Desk, Fault> {
-        let out = vec![in heap; 0; 2 * 16384]?;
+        let out = vec![in heap; 0; 2 * MOST_PLACES]?;
         let work = vec![in heap; 0; 8 * MOST_WORDS]?;
         Ok(Desk { heap, out, work })
     }
@@ -86,8 +103,6 @@ impl Desk {
             self.out.as_mut_slice(),
             self.work.as_mut_slice(),
         );
-        let mut found = Answer::read(self.heap, self.answered(game.len()))?;
-        tally.count(&found);
         let checked = check(
             words.as_slice(),
             self.out.as_slice(),
@@ -96,7 +111,44 @@ impl Desk {
         let wrong = match (solved, checked) {
             (Err(_), _) => Some(Wrong::NoAnswer),
             (Ok(()), Err(rejection)) => Some(Wrong::Check(rejection)),
-            (Ok(()), Ok(())) => compare(self.heap, game, &found)?,
+            (Ok(()), Ok(())) => None,
+        };
+        self.compare(game, wrong, compare, tally)
+    }
+
+    /// The same of a game in which places may have no moves, at which `check`
+    /// does not look.
+    pub fn try_ends(&mut self, game: &Game, tally: &mut Tally) -> Result<Option<Wrong>, Fault> {
+        let words = game.words(self.heap)?;
+        let solved = solve_with_ends(
+            words.as_slice(),
+            self.out.as_mut_slice(),
+            self.work.as_mut_slice(),
+        );
+        let wrong = match solved {
+            Ok(()) => None,
+            Err(_) => Some(Wrong::NoAnswer),
+        };
+        self.compare(game, wrong, &by_all_plans, tally)
+    }
+
+    /// Counts a game by its answer, and says what is wrong with that, if it was
+    /// found already or `compare` finds anything; rounds have to, once a winner
+    /// is changed.
+    fn compare<F: Fn(Global, &Game, &Answer) -> Result<Option<Wrong>, Fault>>(
+        &self,
+        game: &Game,
+        wrong: Option<Wrong>,
+        compare: &F,
+        tally: &mut Tally,
+    ) -> Result<Option<Wrong>, Fault>
+        requires { F.IsAlwaysCallable compare.now }
+    {
+        let mut found = Answer::read(self.heap, self.answered(game.len()))?;
+        tally.count(&found);
+        let wrong = match wrong {
+            Some(wrong) => Some(wrong),
+            None => compare(self.heap, game, &found)?,
         };
         if wrong.is_some() {
             tally.disagreed = tally.disagreed.saturating_add(1);

@@ -1,3 +1,4 @@
 mod Views
 mod Claims
 mod Checks
+mod Layers

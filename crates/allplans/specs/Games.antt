@@ -6,6 +6,18 @@ use Rattle.allplans.specs.declared.game.Place.{Place}
 abbrev pub Below : ℕ → List ℕ → Type 0
 Below n moves = (j : ℕ) → j < length moves → slice_index moves j < n
 
+-- a place of a game with n places in which it may have no moves
+pub record EndsPlace (n : ℕ) (p : Place) : Type 0 where
+  pub side : p.whose < 2
+  pub light : p.weight < 256
+  pub inside : Below n (vec_items p.moves)
+
+-- such a game: 1 to 16,384 places
+pub record FineEnds (ps : List Place) : Type 0 where
+  pub some_place : 0 < length ps
+  pub few : length ps ≤ 16384
+  pub each : (k : ℕ) (d : Place) → k < length ps → EndsPlace (length ps) (slice_index_or ps k d)
+
 -- a place of a game with n places
 pub record FinePlace (n : ℕ) (p : Place) : Type 0 where
   pub side : p.whose < 2

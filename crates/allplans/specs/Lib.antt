@@ -5,3 +5,5 @@ pub mod Claims
 pub mod Rounds
 pub mod Checked
 pub mod Sets
+pub mod Walks
+pub mod Distances

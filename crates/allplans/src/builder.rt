@@ -1,6 +1,6 @@
 //! A game in the making.
 use crate::fault::Fault;
-use crate::fine::FineGame;
+use crate::fine::{EndsGame, FineGame};
 use crate::game::Game;
 use crate::side::Side;
 use std::alloc::Global;
@@ -39,5 +39,11 @@ impl Builder {
     pub(crate) fn finish(self) -> Result<FineGame, Fault> {
         let Builder { game, .. } = self;
         game.checked()
+    }
+
+    /// The game, where it is one in which places may have no moves.
+    pub(crate) fn finish_with_ends(self) -> Result<EndsGame, Fault> {
+        let Builder { game, .. } = self;
+        game.checked_with_ends()
     }
 }

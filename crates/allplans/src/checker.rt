@@ -10,7 +10,7 @@ pub use crate::answer::{Answer, Claim};
 use crate::claimed::Claimed;
 use crate::components::components;
 use crate::fault::Fault;
-use crate::game::{Game, Place};
+use crate::game::{Game, Place, WEIGHTS};
 use crate::side::Side;
 use crate::view::{Move, View};
 use std::alloc::Global;
@@ -110,7 +110,7 @@ fn look_at_all(claimed: Claimed) -> Result<(), Wrong>
 fn check_side(heap: Global, claimed: Claimed, side: Side) -> Result<(), Refusal>
     ensures { OnOk result (NoWrongRound claimed.entry.places.now (winners claimed.entry.claims.now) (plan claimed.entry.claims.now) (side_word side)) }
 {
-    for heaviest in 0..256 {
+    for heaviest in 0..WEIGHTS {
         check_weight(
             heap,
             View {

@@ -1,6 +1,7 @@
 //! The components of a view: the largest sets of places among which one can
 //! go from each to each.
-ghost use Rattle.std.specs.Prelude.{◌≡◌};
+ghost use Rattle.std.specs.Prelude.{◌≡◌, ◌+◌, ◌≤◌, IfSome, IsTrue, OnOk, vec_len};
+ghost use Rattle.allplans.specs.Walks.{unmet, IsNewAt, unmet_one};
 
 use crate::fault::Fault;
 use crate::view::View;
@@ -75,48 +76,52 @@ struct Walk<'a> {
 }
 
 impl Walk<'_> {
-    fn is_new(&self, place: usize) -> bool {
+    fn is_new(&self, place: usize) -> bool
+        ensures { IsTrue result → IsNewAt self.now.marks.items place }
+    {
         self.marks.get(place) == Some(&Mark::New)
     }
 
+    /// Notes what is known of a place that was met.
     fn mark(&mut self, place: usize, mark: Mark)
-        ensures { self.new.waiting ≡ self.old.waiting }
+        requires { unmet_one mark ≡ 0 }
+        ensures waiting { self.new.waiting ≡ self.old.waiting }
+        ensures path { self.new.path ≡ self.old.path }
+        ensures unmet { unmet self.new.marks.items ≤ unmet self.old.marks.items }
     {
-        if let Some(old) = self.marks.get_mut(place) {
-            *old = mark;
+        if place < self.marks.len() {
+            self.marks[place] = mark;
         }
     }
 
     /// Walks from `start` to all that can be reached and was not yet met.
-    fn go(&mut self, start: usize) -> Result<(), Fault> {
+    fn go(&mut self, start: usize) -> Result<(), Fault>
+        requires { IsNewAt self.old.marks.items start }
+    {
         self.meet(start)?;
-        // `while let` was tried, and not proved: what falls, new places and moves left, is told by no step.
-        for _ in 0..u64::MAX {
-            let Some(mut step) = self.path.pop() else {
-                break;
-            };
-            let place = step.place;
-            match step.moves.next() {
+        while let Some(mut step) = self.path.pop() {
+            match self.look(&mut step) {
                 Some(to) => {
                     self.path.push(step)?;
-                    self.look(place, *to as usize)?;
+                    self.meet(to)?;
                 }
-                None => self.leave(place),
+                None => self.leave(step.place),
             }
         }
         Ok(())
     }
 
     /// Comes to a place for the first time.
-    fn meet(&mut self, place: usize) -> Result<(), Fault> {
+    fn meet(&mut self, place: usize) -> Result<(), Fault>
+        requires { IsNewAt self.old.marks.items place }
+        ensures path { OnOk result (vec_len self.new.path ≡ vec_len self.old.path + 1) }
+        ensures unmet { OnOk result (unmet self.new.marks.items + 1 ≡ unmet self.old.marks.items) }
+    {
         self.met = self.met.saturating_add(1);
-        self.mark(
-            place,
-            Mark::Open {
-                order: self.met,
-                low: self.met,
-            },
-        );
+        self.marks[place] = Mark::Open {
+            order: self.met,
+            low: self.met,
+        };
         self.waiting.push(place)?;
         self.path.push(Step {
             place,
@@ -125,21 +130,31 @@ impl Walk<'_> {
         Ok(())
     }
 
-    /// Looks along a move.
-    fn look(&mut self, from: usize, to: usize) -> Result<(), Fault> {
-        if !self.view.has(to) {
-            return Ok(());
+    /// Looks along the moves that are left, up to one to a place that was not
+    /// met.
+    fn look(&mut self, step: &mut Step) -> Option<usize>
+        ensures path { self.new.path ≡ self.old.path }
+        ensures unmet { unmet self.new.marks.items ≤ unmet self.old.marks.items }
+        ensures new { IfSome result (λ to. IsNewAt self.new.marks.items to) }
+    {
+        for to in step.moves.by_ref() {
+            let to = *to as usize;
+            if self.view.has(to) {
+                match self.marks.get(to).copied() {
+                    Some(Mark::New) => return Some(to),
+                    Some(Mark::Open { order, .. }) => self.lower(step.place, order),
+                    Some(Mark::Closed(_)) | None => {}
+                }
+            }
         }
-        match self.marks.get(to).copied() {
-            Some(Mark::New) => self.meet(to)?,
-            Some(Mark::Open { order, .. }) => self.lower(from, order),
-            Some(Mark::Closed(_)) | None => {}
-        }
-        Ok(())
+        None
     }
 
     /// Goes back from a place all of whose moves were looked along.
-    fn leave(&mut self, place: usize) {
+    fn leave(&mut self, place: usize)
+        ensures path { self.new.path ≡ self.old.path }
+        ensures unmet { unmet self.new.marks.items ≤ unmet self.old.marks.items }
+    {
         let Some(Mark::Open { order, low }) = self.marks.get(place).copied() else {
             return;
         };
@@ -151,7 +166,10 @@ impl Walk<'_> {
     }
 
     /// Makes a component of the open places that were met from `place` on.
-    fn close(&mut self, place: usize) {
+    fn close(&mut self, place: usize)
+        ensures path { self.new.path ≡ self.old.path }
+        ensures unmet { unmet self.new.marks.items ≤ unmet self.old.marks.items }
+    {
         self.closed = self.closed.saturating_add(1);
         while let Some(member) = self.waiting.pop() {
             self.mark(member, Mark::Closed(self.closed));
@@ -162,9 +180,18 @@ impl Walk<'_> {
     }
 
     /// Notes that an open place of this order is reached from `place`.
-    fn lower(&mut self, place: usize, reached: u32) {
-        if let Some(Mark::Open { low, .. }) = self.marks.get_mut(place) {
-            *low = reached.min(*low);
+    fn lower(&mut self, place: usize, reached: u32)
+        ensures path { self.new.path ≡ self.old.path }
+        ensures unmet { unmet self.new.marks.items ≤ unmet self.old.marks.items }
+    {
+        if let Some(Mark::Open { order, low }) = self.marks.get(place).copied() {
+            self.mark(
+                place,
+                Mark::Open {
+                    order,
+                    low: reached.min(low),
+                },
+            );
         }
     }
 }

@@ -5,7 +5,7 @@
 //! the numbers of places do not come near their bound.
 use crate::builder::Builder;
 use crate::fault::Fault;
-use crate::fine::FineGame;
+use crate::fine::{EndsGame, FineGame};
 use crate::game::Game;
 use crate::random::Random;
 use crate::side::Side;
@@ -62,6 +62,29 @@ pub fn at_random(
     most: u32,
     weights: u32,
 ) -> Result<FineGame, Fault> {
+    built_at_random(heap, random, places, least, most, weights)?.finish()
+}
+
+/// The same with no moves or up to `most`.
+pub fn at_random_with_ends(
+    heap: Global,
+    random: &mut Random,
+    places: u32,
+    most: u32,
+    weights: u32,
+) -> Result<EndsGame, Fault> {
+    built_at_random(heap, random, places, 0, most, weights)?.finish_with_ends()
+}
+
+/// Such places, whether or not they are a game.
+fn built_at_random(
+    heap: Global,
+    random: &mut Random,
+    places: u32,
+    least: u32,
+    most: u32,
+    weights: u32,
+) -> Result<Builder, Fault> {
     let mut game = Builder::new(heap);
     for _ in 0..places {
         let whose = Side::of(random.below(2));
@@ -70,7 +93,7 @@ pub fn at_random(
         game.place(whose, weight, &[])?;
         go_anywhere(&mut game, random, least.saturating_add(more), places)?;
     }
-    game.finish()
+    Ok(game)
 }
 
 /// So many more moves, to any of the places.

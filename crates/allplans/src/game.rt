@@ -1,17 +1,20 @@
 //! A game as a list of places, and its words.
 ghost use Rattle.std.specs.Prelude.{◌≡◌, ◌==◌, ◌++◌, IsTrue, ◌↔◌, IfOk, vec_items, vec_len, OnOk, if◌then◌else◌};
-ghost use Rattle.allplans.specs.Games.{Fine, FinePlace, place_words, game_words};
+ghost use Rattle.allplans.specs.Games.{EndsPlace, Fine, FineEnds, FinePlace, place_words, game_words};
 ghost use Rattle.allplans.specs.Sides.{side_word};
 
 use crate::builder::Builder;
 use crate::fault::Fault;
-use crate::fine::FineGame;
+use crate::fine::{EndsGame, FineGame};
 use crate::side::Side;
 use std::alloc::Global;
 
-// A number of its own: `allplans` shares nothing with the solver but words (docs/AGREE.md).
+// Numbers of its own: `allplans` shares nothing with the solver but words (docs/AGREE.md).
 /// The most places that a game may have.
 pub const MOST_PLACES: usize = 16384;
+
+/// Weights are below this.
+pub(crate) const WEIGHTS: u32 = 256;
 
 /// A place: whose move it is; its weight; where one may move.
 #[derive(Drop)]
@@ -31,7 +34,7 @@ impl Place {
     }
 
     /// Where one may move if `side` goes as planned, and the other as it likes.
-    pub(crate) fn steps<'a>(&'a self, side: Side, planned: &'a [u32]) -> &'a [u32]
+    pub fn steps<'a>(&'a self, side: Side, planned: &'a [u32]) -> &'a [u32]
         ensures { result.now ≡ (if self.now.whose == side_word side then planned.now else vec_items self.now.moves) }
     {
         if self.is_of(side) {
@@ -45,10 +48,21 @@ impl Place {
     pub fn is_fine(&self, places: usize) -> bool
         ensures { IsTrue result → FinePlace places self.now }
     {
+        !self.moves.is_empty() && self.is_fine_or_ends(places)
+    }
+
+    /// The same, if it may have no moves.
+    fn is_fine_or_ends(&self, places: usize) -> bool
+        ensures { IsTrue result → EndsPlace places self.now }
+    {
         Side::try_from(self.whose).is_ok()
-            && self.weight < 256
-            && !self.moves.is_empty()
+            && self.weight < WEIGHTS
             && self.moves.iter().all(|to| (*to as usize) < places)
+    }
+
+    /// Whether a play ends here, and this side was to move.
+    pub(crate) fn ends_for(&self, side: Side) -> bool {
+        self.moves.is_empty() && self.is_of(side)
     }
 
     /// Writes the words of this place behind `words`.
@@ -110,6 +124,28 @@ impl Game {
     {
         let places = self.places.len();
         (1..=MOST_PLACES).contains(&places) && self.places.iter().all(|place| place.is_fine(places))
+    }
+
+    /// This game, where it is one in which places may have no moves.
+    pub fn checked_with_ends(self) -> Result<EndsGame, Fault>
+        ensures { IfOk result (λ g. g.game ≡ self) }
+    {
+        if self.is_fine_with_ends() {
+            Ok(EndsGame { game: self })
+        } else {
+            Err(Fault::NoGame)
+        }
+    }
+
+    fn is_fine_with_ends(&self) -> bool
+        ensures { IsTrue result → FineEnds self.now.places.items }
+    {
+        let places = self.places.len();
+        (1..=MOST_PLACES).contains(&places)
+            && self
+                .places
+                .iter()
+                .all(|place| place.is_fine_or_ends(places))
     }
 
     /// The game that these words are, if they are one.

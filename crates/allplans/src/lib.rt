@@ -12,6 +12,7 @@ mod builder;
 pub mod checker;
 mod claimed;
 mod components;
+pub mod distances;
 pub mod families;
 pub mod fault;
 pub mod fine;

@@ -98,12 +98,13 @@ impl<'a> Plan<'a> {
     }
 
     /// The places from which a play by this plan can come to a round that the
-    /// other side wins.
+    /// other side wins, or end where the side is to move.
     fn lost(self, heap: Global) -> Result<PlaceSet, Fault> {
         let mut wrong = PlaceSet::new(heap, self.game.len())?;
         for (place, here) in self.game.places.iter().enumerate() {
-            if Side::of(here.weight) != self.side
-                && self.reached(heap, place, here.weight)?.has(place)
+            if here.ends_for(self.side)
+                || Side::of(here.weight) != self.side
+                    && self.reached(heap, place, here.weight)?.has(place)
             {
                 wrong.add(place);
             }

@@ -58,15 +58,16 @@ impl Plays<'_> {
     }
 
     /// Whether the play from `start` stays among the places of the side, and is
-    /// won by it. After as many moves as there are places it goes round, and
-    /// after as many more it has been all the way round.
+    /// won by it: it ends where the other is to move, or goes round. After as
+    /// many moves as there are places it does so, and after as many more it has
+    /// been all the way round.
     fn is_won(self, start: usize) -> bool {
         let places = self.claimed.places.len();
         let mut place = start;
         let mut heaviest = 0;
         for moved in 0..places.saturating_mul(2) {
             let Some(to) = self.next(place) else {
-                return false;
+                return self.has_ended_well(place);
             };
             if moved >= places {
                 heaviest = heaviest.max(self.weight(place));
@@ -87,6 +88,14 @@ impl Plays<'_> {
             here.moves.get(*self.replies.get(place)?).copied()?
         } as usize;
         self.claimed.gives(to, self.side).then_some(to)
+    }
+
+    /// Whether a play that has come here ends, and the other side was to move.
+    fn has_ended_well(self, place: usize) -> bool {
+        self.claimed
+            .places
+            .get(place)
+            .is_some_and(|here| here.ends_for(self.side.other()))
     }
 
     fn weight(self, place: usize) -> u32 {

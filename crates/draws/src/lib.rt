@@ -20,10 +20,7 @@ impl Count for u32 {
     ghost number = { λ n. n };
 
     fn rest_of(self, n: u64) -> u32 {
-        match n.checked_rem(u64::from(self)) {
-            Some(rest) => rest as u32,
-            None => 0,
-        }
+        n.checked_rem(u64::from(self)).unwrap_or(0) as u32
     }
 }
 
@@ -81,10 +78,7 @@ impl<N: Count, const SHIFT: u32> Random<N, SHIFT> {
 fn upper(n: u64, shift: u32) -> u64
     ensures { result ≡ n / 2 ^ shift }
 {
-    match n.checked_shr(shift) {
-        Some(upper) => upper,
-        None => 0,
-    }
+    n.checked_shr(shift).unwrap_or(0)
 }
 
 #[cfg(test)]

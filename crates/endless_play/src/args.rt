@@ -58,8 +58,7 @@ pub(crate) fn parse(args: Args) -> Result<Request, Fault> {
     let mut moves = 1000;
     let mut side = None;
     let mut form = None;
-    let mut file = None;
-    let mut place = None;
+    let mut names = None;
     while let Some(arg) = args.next() {
         match arg.as_str() {
             "--help" => return Ok(Request::Help),
@@ -67,15 +66,16 @@ pub(crate) fn parse(args: Args) -> Result<Request, Fault> {
             "--side" => side = Some(side_named(args.next().ok_or(Fault::NoSide)?)?),
             "--format" => form = Some(form_named(args.next().ok_or(Fault::NoFormat)?)?),
             "--" => break,
-            _ => add_name(&mut file, &mut place, not_option(arg)?)?,
+            _ => names = Some(with_name(names, not_option(arg)?)?),
         }
     }
     // Behind `--` each word is a name.
     for name in args {
-        add_name(&mut file, &mut place, name)?;
+        names = Some(with_name(names, name)?);
     }
+    let Names { file, place } = names.ok_or(Fault::NoFile)?;
     Ok(Request::Play(Job {
-        file: file.ok_or(Fault::NoFile)?,
+        file,
         place,
         moves,
         form,
@@ -83,22 +83,31 @@ pub(crate) fn parse(args: Args) -> Result<Request, Fault> {
     }))
 }
 
-/// The first word that is no option is the file, and the second the place.
-fn add_name(
-    file: &mut Option<String>,
-    place: &mut Option<String>,
-    name: String,
-) -> Result<(), Fault> {
-    if file.is_none() {
-        *file = Some(name);
-    } else if place.is_none() {
-        *place = Some(name);
-    } else {
-        return Err(Fault::ThirdName(name));
-    }
-    Ok(())
+/// The words that are no options: a file, and a place of its game.
+#[derive(Drop)]
+struct Names {
+    file: String,
+    place: Option<String>,
 }
 
+/// What is named with one name more: the first is the file's, and the second
+/// the place's.
+fn with_name(names: Option<Names>, name: String) -> Result<Names, Fault> {
+    match names {
+        None => Ok(Names {
+            file: name,
+            place: None,
+        }),
+        Some(Names { file, place: None }) => Ok(Names {
+            file,
+            place: Some(name),
+        }),
+        Some(Names { place: Some(_), .. }) => Err(Fault::ThirdName(name)),
+    }
+}
+
+// Beside `file_named` of `endless_solve`, where `-` is a file, the standard input: here
+// that is the person's.
 fn not_option(arg: String) -> Result<String, Fault> {
     if arg.as_str().starts_with("-") {
         return Err(Fault::Option(arg));

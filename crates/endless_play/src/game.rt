@@ -8,7 +8,7 @@ use crate::table::Table;
 use crate::{input, show, wish};
 use forms::Source;
 use playing::Board;
-use playing::board::solve_in;
+use playing::board::Room;
 use std::alloc::AllocError;
 use std::io;
 use std::io::BufReader;
@@ -17,14 +17,8 @@ use std::io::BufReader;
 pub(crate) fn run(rt: &HostRuntime, job: Job) -> Result<(), Fault> {
     let heap = rt.alloc();
     let Source { words, labels } = input::source(rt, job.file.as_str(), job.form)?;
-    let words = words.as_slice();
-    let places = words.first().copied().unwrap_or(0) as usize;
-    let Some(answer) = solve_in(heap, words)? else {
-        return Err(Fault::NoGame { file: job.file });
-    };
-    let answer = answer.as_slice();
-    let mut starts = vec![in heap; [0, 0]; places]?;
-    let Some(board) = Board::new(words, answer, starts.as_mut_slice()) else {
+    let mut room = Room::new(heap);
+    let Some(board) = Board::solve_in(heap, words.as_slice(), &mut room)? else {
         return Err(Fault::NoGame { file: job.file });
     };
     let names = labels.into_names(heap)?;

@@ -45,8 +45,7 @@ impl Table<'_> {
 
     /// The moves to choose from, by number and name.
     pub(crate) fn show_moves(&self, rt: &HostRuntime, moves: &[u32]) -> Result<(), Fault> {
-        for (index, to) in moves.iter().enumerate() {
-            let number = index + 1;
+        for (number, to) in (1..).zip(moves) {
             let to = self.name(*to);
             println!(rt; "  {number}  {to}")?;
         }

@@ -191,7 +191,9 @@ fn side_named(arg: String) -> Result<Side, Fault> {
     arg.as_str().parse().map_err(|_| Fault::Side(arg))
 }
 
-/// A file to read: an option that there is not is no file.
+// Beside `not_option` of `endless_play`, where `-` is none: there the standard input is
+// the person's.
+/// A file to read, `-` among them: an option that there is not is no file.
 fn file_named(name: String) -> Result<String, Fault> {
     if name.as_str() != "-" && name.as_str().starts_with("-") {
         return Err(Fault::Option(name));

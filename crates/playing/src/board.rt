@@ -46,6 +46,24 @@ pub fn solve_in(heap: Global, words: &[u32]) -> Result<Option<Vec<u32>>, AllocEr
     }
 }
 
+/// What a board on the heap is made of: an answer, and where each place's words
+/// start.
+#[derive(Drop)]
+pub struct Room {
+    answer: Vec<u32>,
+    starts: Vec<Halves>,
+}
+
+impl Room {
+    /// Room of which nothing was made yet.
+    pub fn new(heap: Global) -> Room {
+        Room {
+            answer: Vec::new(heap),
+            starts: Vec::new(heap),
+        }
+    }
+}
+
 /// A game and its answer, with where each place's words start, so that what
 /// is asked of a place costs no more than its moves.
 #[derive(Drop)]
@@ -79,6 +97,23 @@ impl<'a> Board<'a> {
     {
         solve(words, answer, work).ok()?;
         Board::new(words, answer, starts)
+    }
+
+    /// Solves the game that these words are, on the heap: the board is made of
+    /// `room`, and what that held is let go. `None` where they are no game.
+    pub fn solve_in(
+        heap: Global,
+        words: &'a [u32],
+        room: &'a mut Room,
+    ) -> Result<Option<Board<'a>>, AllocError>
+        ensures { IfOk result (λ o. IfSome o (λ b. Reads words.now b.game × Answered b.game b.answer)) }
+    {
+        let Some(answer) = solve_in(heap, words)? else {
+            return Ok(None);
+        };
+        room.starts = vec![in heap; [0, 0]; answer.len() / 2]?;
+        room.answer = answer;
+        Ok(Board::new(words, room.answer.as_slice(), room.starts.as_mut_slice()))
     }
 
     /// A board of the game that these words are, with an answer to it, as

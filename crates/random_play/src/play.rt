@@ -16,7 +16,7 @@ use crate::fault::Fault;
 use crate::{input, report};
 use draws::Random;
 use endless::side::Side;
-use playing::board::solve_in;
+use playing::board::Room;
 use playing::{Board, Trail, steps};
 use std::alloc::{AllocError, Global};
 use std::marker::Model;
@@ -92,14 +92,8 @@ impl<'a> Model for Play<'a> {
 pub(crate) fn run(rt: &HostRuntime, file: &str, count: u64) -> Result<(), Fault> {
     let heap = rt.alloc();
     let source = input::source(rt, file)?;
-    let words = source.words.as_slice();
-    let places = words.first().copied().unwrap_or(0) as usize;
-    let Some(answer) = solve_in(heap, words)? else {
-        return Err(Fault::NoGame);
-    };
-    let answer = answer.as_slice();
-    let mut starts = vec![in heap; [0, 0]; places]?;
-    let Some(board) = Board::new(words, answer, starts.as_mut_slice()) else {
+    let mut room = Room::new(heap);
+    let Some(board) = Board::solve_in(heap, source.words.as_slice(), &mut room)? else {
         return Err(Fault::NoGame);
     };
     if board.len() == 0 {
