@@ -10,11 +10,7 @@ use std::alloc::Global;
 fn name_line(heap: Global, names: &mut Names, number: usize, line: &str) -> Result<(), Refusal>
     ensures { Named number line.now names.old names.new result }
 {
-    let held = row::read_line(line).map_err(|fault| Refusal::Fault {
-        line: number,
-        fault,
-    })?;
-    let Some(row) = held else {
+    let Some(row) = row::read_line(line).map_err(|fault| fault.on(number))? else {
         return Ok(());
     };
     names.add(number, row.name.to_name(heap)?)
@@ -25,8 +21,8 @@ pub(crate) fn gather_names(heap: Global, text: &str) -> Result<Names, Refusal>
     ensures { Gathered text.now result }
 {
     let mut names = Names::new(heap);
-    for (i, line) in text.split('\n').enumerate() {
-        name_line(heap, &mut names, i + 1, line)?;
+    for (number, line) in (1..).zip(text.split('\n')) {
+        name_line(heap, &mut names, number, line)?;
     }
     Ok(names)
 }

@@ -39,16 +39,9 @@ impl<'a> Line<'a> {
         ensures { (ms : List (List ℕ)) → names_of (left moves.entry) ≡ Ok ms → Moved self.entry.number self.entry.names.now words.old.items ms words.new.items result }
     {
         for token in moves {
-            let token = token.map_err(|fault| Refusal::Fault {
-                line: self.number,
-                fault,
-            })?;
-            match token {
+            match token.map_err(|fault| fault.on(self.number))? {
                 Token::Word(word) => words.push(self.find(word)?)?,
-                Token::Colon => return Err(Refusal::Fault {
-                    line: self.number,
-                    fault: Fault::Form,
-                }),
+                Token::Colon => return Err(Fault::Form.on(self.number)),
             }
         }
         Ok(())
@@ -59,11 +52,7 @@ impl<'a> Line<'a> {
         requires { used ≤ 64000 }
         ensures { Worded self.entry.number self.entry.names.now used line.now words.old.items words.new.items result }
     {
-        let held = row::read_line(line).map_err(|fault| Refusal::Fault {
-            line: self.number,
-            fault,
-        })?;
-        let Some(row) = held else {
+        let Some(row) = row::read_line(line).map_err(|fault| fault.on(self.number))? else {
             return Ok(used);
         };
         if row.count > MOST_MOVES - used {
@@ -85,8 +74,7 @@ pub(crate) fn write_words(heap: Global, names: &Names, text: &str) -> Result<Vec
     let mut words = Vec::new(heap);
     words.push(names.len())?;
     let mut used = 0;
-    for (i, line) in text.split('\n').enumerate() {
-        let number = i + 1;
+    for (number, line) in (1..).zip(text.split('\n')) {
         used = Line {
             heap,
             names,
