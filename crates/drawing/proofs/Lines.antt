@@ -12,6 +12,7 @@ use Rattle.std.proofs.lemmas.List.Splits.{length-slice_split}
 use Rattle.std.proofs.lemmas.List.Sums.{count_by-le-length}
 use Rattle.std.proofs.lemmas.List.{at_drop_more, at_drop_all}
 use Rattle.std.proofs.lemmas.Bool.{cond-false, ne_eqb, cases_eq}
+use Rattle.drawing.specs.declared.kind.Kind.{Kind}
 use Rattle.drawing.specs.Reading.{lines, bared, held, Why, and_then, name_line, name_lines, word_line, word_lines}
 
 bared_push : (xs : List ℕ) → bared (xs ++ (13 ∷ [])) ≡ xs
@@ -85,39 +86,39 @@ pub all_turned : (ls : List (List ℕ)) (k : ℕ) → k ≡ length (enumerate_fr
 all_turned ls k e = omega (arith, all_numbered 1 ls)
 
 -- the first pass, where k lines are read
-module _ (ls : List (List ℕ)) (k : ℕ) (names : List (List ℕ)) (whole : Result (List (List ℕ)) Why) (s : name_lines (suc k) names (drop k ls) ≡ whole) where
+module _ (kind : Kind) (ls : List (List ℕ)) (k : ℕ) (names : List (List ℕ)) (whole : Result (List (List ℕ)) Why) (s : name_lines kind (suc k) names (drop k ls) ≡ whole) where
   module _ (i : ℕ) (line : List ℕ) (t : Turn ls k i line) where
-    next_named : and_then (name_line i names (held line)) (λ more. name_lines (suc i) more (drop (k + 1) ls)) ≡ whole
+    next_named : and_then (name_line i names (held kind line)) (λ more. name_lines kind (suc i) more (drop (k + 1) ls)) ≡ whole
     next_named =
         let same : i ≡ suc k = omega (arith, t.number) in
-        (λ j. and_then (name_line (same j) names (held (t.is j))) (λ more. name_lines (suc (same j)) more (drop (k + 1) ls))) ∙ sym (at_drop_more (name_lines (suc k) names) ls k [] t.within) ∙ s
+        (λ j. and_then (name_line (same j) names (held kind (t.is j))) (λ more. name_lines kind (suc (same j)) more (drop (k + 1) ls))) ∙ sym (at_drop_more (name_lines kind (suc k) names) ls k [] t.within) ∙ s
 
-    pub names_more : (more : List (List ℕ)) (m : ℕ) → m ≡ k + 1 → name_line i names (held line) ≡ Ok more → name_lines (suc m) more (drop m ls) ≡ whole
+    pub names_more : (more : List (List ℕ)) (m : ℕ) → m ≡ k + 1 → name_line i names (held kind line) ≡ Ok more → name_lines kind (suc m) more (drop m ls) ≡ whole
     names_more more m e h =
         let same : m ≡ i = omega (arith, t.number) in
-        (λ j. name_lines (suc (same j)) more (drop (e j) ls)) ∙ sym (ap (λ x. and_then x (λ more. name_lines (suc i) more (drop (k + 1) ls))) h) ∙ next_named
+        (λ j. name_lines kind (suc (same j)) more (drop (e j) ls)) ∙ sym (ap (λ x. and_then x (λ more. name_lines kind (suc i) more (drop (k + 1) ls))) h) ∙ next_named
 
-    pub names_err : (y : Why) → name_line i names (held line) ≡ Err y → whole ≡ Err y
-    names_err y h = sym next_named ∙ ap (λ x. and_then x (λ more. name_lines (suc i) more (drop (k + 1) ls))) h
+    pub names_err : (y : Why) → name_line i names (held kind line) ≡ Err y → whole ≡ Err y
+    names_err y h = sym next_named ∙ ap (λ x. and_then x (λ more. name_lines kind (suc i) more (drop (k + 1) ls))) h
 
   pub names_end : length ls ≤ k → whole ≡ Ok names
-  names_end h = sym s ∙ at_drop_all (name_lines (suc k) names) ls k h
+  names_end h = sym s ∙ at_drop_all (name_lines kind (suc k) names) ls k h
 
 -- the second pass, where k lines are read
-module _ (ls : List (List ℕ)) (k : ℕ) (names : List (List ℕ)) (used : ℕ) (acc : List ℕ) (whole : Result (List ℕ) Why) (s : word_lines (suc k) names used acc (drop k ls) ≡ whole) where
+module _ (kind : Kind) (ls : List (List ℕ)) (k : ℕ) (names : List (List ℕ)) (used : ℕ) (acc : List ℕ) (whole : Result (List ℕ) Why) (s : word_lines kind (suc k) names used acc (drop k ls) ≡ whole) where
   module _ (i : ℕ) (line : List ℕ) (t : Turn ls k i line) where
-    next_worded : and_then (word_line i names used acc (held line)) (λ p. word_lines (suc i) names p.0 p.1 (drop (k + 1) ls)) ≡ whole
+    next_worded : and_then (word_line i names used acc (held kind line)) (λ p. word_lines kind (suc i) names p.0 p.1 (drop (k + 1) ls)) ≡ whole
     next_worded =
         let same : i ≡ suc k = omega (arith, t.number) in
-        (λ j. and_then (word_line (same j) names used acc (held (t.is j))) (λ p. word_lines (suc (same j)) names p.0 p.1 (drop (k + 1) ls))) ∙ sym (at_drop_more (word_lines (suc k) names used acc) ls k [] t.within) ∙ s
+        (λ j. and_then (word_line (same j) names used acc (held kind (t.is j))) (λ p. word_lines kind (suc (same j)) names p.0 p.1 (drop (k + 1) ls))) ∙ sym (at_drop_more (word_lines kind (suc k) names used acc) ls k [] t.within) ∙ s
 
-    pub words_more : (more : ℕ) (new : List ℕ) (m : ℕ) → m ≡ k + 1 → word_line i names used acc (held line) ≡ Ok (more, new) → word_lines (suc m) names more new (drop m ls) ≡ whole
+    pub words_more : (more : ℕ) (new : List ℕ) (m : ℕ) → m ≡ k + 1 → word_line i names used acc (held kind line) ≡ Ok (more, new) → word_lines kind (suc m) names more new (drop m ls) ≡ whole
     words_more more new m e h =
         let same : m ≡ i = omega (arith, t.number) in
-        (λ j. word_lines (suc (same j)) names more new (drop (e j) ls)) ∙ sym (ap (λ x. and_then x (λ p. word_lines (suc i) names p.0 p.1 (drop (k + 1) ls))) h) ∙ next_worded
+        (λ j. word_lines kind (suc (same j)) names more new (drop (e j) ls)) ∙ sym (ap (λ x. and_then x (λ p. word_lines kind (suc i) names p.0 p.1 (drop (k + 1) ls))) h) ∙ next_worded
 
-    pub words_err : (y : Why) → word_line i names used acc (held line) ≡ Err y → whole ≡ Err y
-    words_err y h = sym next_worded ∙ ap (λ x. and_then x (λ p. word_lines (suc i) names p.0 p.1 (drop (k + 1) ls))) h
+    pub words_err : (y : Why) → word_line i names used acc (held kind line) ≡ Err y → whole ≡ Err y
+    words_err y h = sym next_worded ∙ ap (λ x. and_then x (λ p. word_lines kind (suc i) names p.0 p.1 (drop (k + 1) ls))) h
 
   pub words_end : length ls ≤ k → whole ≡ Ok acc
-  words_end h = sym s ∙ at_drop_all (word_lines (suc k) names used acc) ls k h
+  words_end h = sym s ∙ at_drop_all (word_lines kind (suc k) names used acc) ls k h

@@ -4,6 +4,7 @@ ghost use Rattle.drawing.specs.Form.{names_of};
 ghost use Rattle.drawing.specs.Lexed.{meant, left};
 ghost use Rattle.drawing.specs.Passes.{Found, Moved, Worded, Written};
 
+use crate::kind::Kind;
 use crate::names::Names;
 use crate::refusal::{Fault, Refusal};
 use crate::row;
@@ -14,10 +15,11 @@ use std::alloc::Global;
 /// The most moves of a drawing, those of all places together.
 pub const MOST_MOVES: usize = 64_000;
 
-/// A line by its number, and the names that its moves are looked up among.
+/// A line by its number, and the names that its moves are looked up among, in a drawing of this kind.
 #[derive(Clone, Copy)]
 struct Line<'a> {
     heap: Global,
+    kind: Kind,
     names: &'a Names,
     number: usize,
 }
@@ -50,9 +52,10 @@ impl<'a> Line<'a> {
     /// Adds the words of the place that the line holds, if it holds one, and its moves to those used.
     fn write(self, line: &str, used: usize, words: &mut Vec<u32>) -> Result<usize, Refusal>
         requires { used ≤ 64000 }
-        ensures { Worded self.entry.number self.entry.names.now used line.now words.old.items words.new.items result }
+        ensures { Worded self.entry.kind self.entry.number self.entry.names.now used line.now words.old.items words.new.items result }
     {
-        let Some(row) = row::read_line(line).map_err(|fault| fault.on(self.number))? else {
+        let Some(row) = row::read_line(line, self.kind).map_err(|fault| fault.on(self.number))?
+        else {
             return Ok(used);
         };
         if row.count > MOST_MOVES - used {
@@ -68,8 +71,13 @@ impl<'a> Line<'a> {
 }
 
 /// The words of the whole game.
-pub(crate) fn write_words(heap: Global, names: &Names, text: &str) -> Result<Vec<u32>, Refusal>
-    ensures { Written names.now text.now result }
+pub(crate) fn write_words(
+    heap: Global,
+    names: &Names,
+    text: &str,
+    kind: Kind,
+) -> Result<Vec<u32>, Refusal>
+    ensures { Written kind names.now text.now result }
 {
     let mut words = Vec::new(heap);
     words.push(names.len())?;
@@ -77,6 +85,7 @@ pub(crate) fn write_words(heap: Global, names: &Names, text: &str) -> Result<Vec
     for (number, line) in (1..).zip(text.split('\n')) {
         used = Line {
             heap,
+            kind,
             names,
             number,
         }
