@@ -4,6 +4,7 @@ use Rattle.std.specs.Str.{bytes_eq}
 use Rattle.std.proofs.lemmas.Slice.Eq.{bytes_eq-Decides}
 use Rattle.std.proofs.lemmas.List.{length_push, get_or_append_left, get_or_push}
 use Rattle.std.proofs.lemmas.Bool.{cases_lt, cond-true, ltb-true}
+use Rattle.drawing.specs.declared.kind.Kind.{Kind}
 use Rattle.drawing.specs.Form.{Entry, Line, nothing, place, bad}
 use Rattle.drawing.specs.Reading.{held, up, index_of, Why, many_places, and_then, add_new, name_line, name_lines}
 use Rattle.drawing.specs.Passes.{Apart}
@@ -93,18 +94,18 @@ with_map nothing es = refl
 with_map (bad f) es = refl
 with_map (place e) es = refl
 
-pub lines_follow : (ls : List (List ℕ)) (n : ℕ) (old new : List (List ℕ)) → name_lines n old ls ≡ Ok new → Follow old (entries ls) new
-lines_follow [] n old new h = follow_none old new cc
-lines_follow (l ∷ ls) n old new h = at (λ more q. lines_follow ls (suc n) more new q) (name_line n old (held l)) refl h
+pub lines_follow : (kind : Kind) (ls : List (List ℕ)) (n : ℕ) (old new : List (List ℕ)) → name_lines kind n old ls ≡ Ok new → Follow old (entries kind ls) new
+lines_follow kind [] n old new h = follow_none old new cc
+lines_follow kind (l ∷ ls) n old new h = at (λ more q. lines_follow kind ls (suc n) more new q) (name_line n old (held kind l)) refl h
   where
-    at : ((more : List (List ℕ)) → name_lines (suc n) more ls ≡ Ok new → Follow more (entries ls) new) → (x : Result (List (List ℕ)) Why) → name_line n old (held l) ≡ x → and_then x (λ more. name_lines (suc n) more ls) ≡ Ok new → Follow old (with_entry (held l) (entries ls)) new
+    at : ((more : List (List ℕ)) → name_lines kind (suc n) more ls ≡ Ok new → Follow more (entries kind ls) new) → (x : Result (List (List ℕ)) Why) → name_line n old (held kind l) ≡ x → and_then x (λ more. name_lines kind (suc n) more ls) ≡ Ok new → Follow old (with_entry (held kind l) (entries kind ls)) new
     at rec (Ok more) q h =
-        let one = line_follow n old more (held l) q in
+        let one = line_follow n old more (held kind l) q in
         let rest = rec more h in
         record {
           apart = λ a. rest.apart (one.apart a);
           few = λ m. rest.few (one.few m);
-          are = rest.are ∙ ap (λ k. k ++ map (λ e. e.named) (entries ls)) one.are ∙ append_assoc old _ _ ∙ ap (λ k. old ++ k) (sym (with_map (held l) (entries ls)));
+          are = rest.are ∙ ap (λ k. k ++ map (λ e. e.named) (entries kind ls)) one.are ∙ append_assoc old _ _ ∙ ap (λ k. old ++ k) (sym (with_map (held kind l) (entries kind ls)));
         }
     at rec (Err y) q h = absurd (ok_err h)
 

@@ -1,11 +1,12 @@
 -- Small drawings, as they read.
 use Rattle.std.proofs.Common.{◌≡◌, ℕ, true, false, List, [], ◌∷◌, Ok, Err, codes, Result, refl}
-use Rattle.drawing.specs.declared.refusal.Fault.TheVariants.{Weight, Quote}
+use Rattle.drawing.specs.declared.kind.Kind.TheVariants.{Endless, WithEnds}
+use Rattle.drawing.specs.declared.refusal.Fault.TheVariants.{Weight, NoMoves, Quote}
 use Rattle.drawing.specs.Form.{pieces, pieces_in, colon, word, wrong}
 use Rattle.drawing.specs.Reading.{reading, Why, faulty, unknown, no_places}
 
 abbrev ReadsAs : List ℕ → Result (List (List ℕ) × List ℕ) Why → Type 0
-ReadsAs text answer = reading text ≡ answer
+ReadsAs text answer = reading Endless text ≡ answer
 
 tokens : pieces (codes "a 0 12:b#c") ≡ word false (codes "a") ∷ word false (codes "0") ∷ word false (codes "12") ∷ colon ∷ word false (codes "b") ∷ []
 unfolding pieces pieces_in
@@ -36,3 +37,12 @@ too_heavy = refl
 none : ReadsAs (35 ∷ 97 ∷ 10 ∷ []) (Err no_places)
 unfolding pieces pieces_in
 none = refl
+
+-- a place without moves: a 0 1:
+no_moves : ReadsAs (97 ∷ 32 ∷ 48 ∷ 32 ∷ 49 ∷ 58 ∷ []) (Err (faulty 1 NoMoves))
+unfolding pieces pieces_in
+no_moves = refl
+
+with_end : reading WithEnds (97 ∷ 32 ∷ 48 ∷ 32 ∷ 49 ∷ 58 ∷ []) ≡ Ok ((97 ∷ []) ∷ [], 1 ∷ 0 ∷ 1 ∷ 0 ∷ [])
+unfolding pieces pieces_in
+with_end = refl

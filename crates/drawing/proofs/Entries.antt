@@ -1,16 +1,18 @@
--- What a line that holds a place says: a side, a weight, a move at least.
+-- What a line that holds a place says: a side, a weight, a move at least but in a game with ends.
 use Rattle.std.proofs.Common.{◌≡◌, ℕ, ◌+◌, ◌-◌, ◌*◌, ◌<◌, Bool, true, false, cond, ltb, List, [], ◌∷◌, length, Some, None, Ok, Err, Option, Result, refl, ap, subst, arith}
 use Rattle.std.specs.Char.{is_ascii_digit}
 use Rattle.std.specs.Str.{bytes_eq}
 use Rattle.std.proofs.lemmas.Bool.{ltb-true}
+use Rattle.drawing.specs.declared.kind.Kind.{Kind}
+use Rattle.drawing.specs.declared.kind.Kind.TheVariants.{Endless, WithEnds}
 use Rattle.drawing.specs.declared.refusal.Fault.{Fault}
 use Rattle.drawing.specs.declared.refusal.Fault.TheVariants.{Side, Weight}
 use Rattle.drawing.specs.Form.{Piece, colon, word, wrong, side_of, digits, weight_of, or_fault, number_first, colon_first, names_of, some_names, Entry, place, bad, row_moves, row_colon, row_weight, row_side, row}
 
-pub record Fine (e : Entry) : Type 0 where
+pub record Fine (kind : Kind) (e : Entry) : Type 0 where
   pub sided : e.side < 2
   pub light : e.weighs < 256
-  pub some : 0 < length e.goes
+  pub some : kind ≡ Endless → 0 < length e.goes
 
 not_both : {n : ℕ} → None ≡ Some n → ⊥
 not_both e = let z : ◌≡◌ {A = ℕ} 0 1 = cc in omega arith
@@ -53,33 +55,34 @@ number_low read k low f (word q w ∷ ps) n rest e = at (read q w) refl e
     at None h r = absurd (not_ok r)
     at (Some m) h r = let both : ◌≡◌ {A = ℕ × List Piece} (m, ps) (n, rest) = cc in let z : m ≡ n = ap (λ p. p.0) both in subst (λ i. i < k) z (low q w m h)
 
-some_some : (x : Result (List (List ℕ)) Fault) (ms : List (List ℕ)) → some_names x ≡ Ok ms → 0 < length ms
-some_some (Err f) ms e = absurd (not_ok e)
-some_some (Ok []) ms e = absurd (not_ok e)
-some_some (Ok (w ∷ ws)) ms e = let z : w ∷ ws ≡ ms = cc in subst (λ l. 0 < length l) z (omega arith)
+some_some : (kind : Kind) (x : Result (List (List ℕ)) Fault) (ms : List (List ℕ)) → some_names kind x ≡ Ok ms → kind ≡ Endless → 0 < length ms
+some_some kind (Err f) ms e is = absurd (not_ok e)
+some_some Endless (Ok []) ms e is = absurd (not_ok e)
+some_some WithEnds (Ok []) ms e is = absurd (let z : ◌≡◌ {A = ℕ} 0 1 = cc in omega arith)
+some_some kind (Ok (w ∷ ws)) ms e is = let z : w ∷ ws ≡ ms = cc in subst (λ l. 0 < length l) z (omega arith)
 
 entry_of : {e f : Entry} → place e ≡ place f → e ≡ f
 entry_of q = cc
 
 -- what a row says is a place
-pub row_fine : (ps : List Piece) (e : Entry) → row ps ≡ place e → Fine e
-row_fine [] e h = absurd (let z : ◌≡◌ {A = ℕ} 0 1 = cc in omega arith)
-row_fine (colon ∷ ps) e h = absurd (not_bad h)
-row_fine (wrong f ∷ ps) e h = absurd (not_bad h)
-row_fine (word q x ∷ ps) e h = sided (number_first side_of Side ps) refl h
+pub row_fine : (kind : Kind) (ps : List Piece) (e : Entry) → row kind ps ≡ place e → Fine kind e
+row_fine kind [] e h = absurd (let z : ◌≡◌ {A = ℕ} 0 1 = cc in omega arith)
+row_fine kind (colon ∷ ps) e h = absurd (not_bad h)
+row_fine kind (wrong f ∷ ps) e h = absurd (not_bad h)
+row_fine kind (word q x ∷ ps) e h = sided (number_first side_of Side ps) refl h
   where
-    moved : (s w : ℕ) → s < 2 → w < 256 → (m : Result (List (List ℕ)) Fault) → ((ms : List (List ℕ)) → m ≡ Ok ms → 0 < length ms) → row_moves x s w m ≡ place e → Fine e
+    moved : (s w : ℕ) → s < 2 → w < 256 → (m : Result (List (List ℕ)) Fault) → ((ms : List (List ℕ)) → m ≡ Ok ms → kind ≡ Endless → 0 < length ms) → row_moves x s w m ≡ place e → Fine kind e
     moved s w a b (Err f) o r = absurd (not_bad r)
-    moved s w a b (Ok ms) o r = subst Fine (entry_of r) (record { sided = a; light = b; some = o ms refl })
+    moved s w a b (Ok ms) o r = subst (Fine kind) (entry_of r) (record { sided = a; light = b; some = o ms refl })
 
-    coloned : (s w : ℕ) → s < 2 → w < 256 → (m : Result (List Piece) Fault) → row_colon x s w m ≡ place e → Fine e
+    coloned : (s w : ℕ) → s < 2 → w < 256 → (m : Result (List Piece) Fault) → row_colon kind x s w m ≡ place e → Fine kind e
     coloned s w a b (Err f) r = absurd (not_bad r)
-    coloned s w a b (Ok rest) r = moved s w a b (some_names (names_of rest)) (λ ms q. some_some (names_of rest) ms q) r
+    coloned s w a b (Ok rest) r = moved s w a b (some_names kind (names_of rest)) (λ ms q. some_some kind (names_of rest) ms q) r
 
-    weighed : (s : ℕ) → s < 2 → (rest : List Piece) (m : Result (ℕ × List Piece) Fault) → number_first weight_of Weight rest ≡ m → row_weight x s m ≡ place e → Fine e
+    weighed : (s : ℕ) → s < 2 → (rest : List Piece) (m : Result (ℕ × List Piece) Fault) → number_first weight_of Weight rest ≡ m → row_weight kind x s m ≡ place e → Fine kind e
     weighed s a rest (Err f) q r = absurd (not_bad r)
     weighed s a rest (Ok p) q r = coloned s p.0 a (number_low weight_of 256 weight_low Weight rest p.0 p.1 q) (colon_first p.1) r
 
-    sided : (m : Result (ℕ × List Piece) Fault) → number_first side_of Side ps ≡ m → row_side x m ≡ place e → Fine e
+    sided : (m : Result (ℕ × List Piece) Fault) → number_first side_of Side ps ≡ m → row_side kind x m ≡ place e → Fine kind e
     sided (Err f) q r = absurd (not_bad r)
     sided (Ok p) q r = weighed p.0 (number_low side_of 2 side_low Side ps p.0 p.1 q) p.1 (number_first weight_of Weight p.1) refl r

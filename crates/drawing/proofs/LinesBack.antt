@@ -3,6 +3,7 @@ use Rattle.std.proofs.Common.{◌≡◌, ℕ, suc, ◌+◌, ◌<◌, true, false
 use Rattle.std.specs.Fmt.{decimal}
 use Rattle.std.specs.List.{flat_map, prefix_len}
 use Rattle.endless.specs.Games.{Among, first, later}
+use Rattle.drawing.specs.declared.kind.Kind.TheVariants.{Endless}
 use Rattle.drawing.specs.declared.refusal.Fault.TheVariants.{Side, Weight}
 use Rattle.drawing.specs.Form.{blank, apart, word, colon, next_dark, next_piece, pieces, Entry, place, or_fault, names_of, with_name, some_names, row_moves, row_weight, row_side, row}
 use Rattle.drawing.specs.Reading.{held}
@@ -62,15 +63,15 @@ module _ (names : List (List ℕ)) (x : List ℕ) (is : IsName x) (s : ℕ) (sid
   abbrev entry : Entry
   entry = record { named = x; side = s; weighs = w; goes = map (named names) ms }
 
-  moved : (ms : List ℕ) → 0 < length ms → row_moves x s w (some_names (Ok (map (named names) ms))) ≡ place (record { named = x; side = s; weighs = w; goes = map (named names) ms })
+  moved : (ms : List ℕ) → 0 < length ms → row_moves x s w (some_names Endless (Ok (map (named names) ms))) ≡ place (record { named = x; side = s; weighs = w; goes = map (named names) ms })
   moved [] h = absurd (omega arith)
   moved (m ∷ ms) h = refl
 
-  pub line_held : held (before_moves x s w goes) ≡ place entry
+  pub line_held : held Endless (before_moves x s w goes) ≡ place entry
   line_held =
-      ap (λ l. row (pieces l)) (bared_printable (before_moves x s w goes) line_printable)
-      ∙ ap row line_pieces
-      ∙ ap (λ o. row_side x (or_fault o Side (word false (decimal w) ∷ colon ∷ pieces goes))) (side_back s sided)
-      ∙ ap (λ o. row_weight x s (or_fault o Weight (colon ∷ pieces goes))) (weighs_back w light)
-      ∙ ap (λ r. row_moves x s w (some_names r)) (names_back names ms each)
+      ap (λ l. row Endless (pieces l)) (bared_printable (before_moves x s w goes) line_printable)
+      ∙ ap (row Endless) line_pieces
+      ∙ ap (λ o. row_side Endless x (or_fault o Side (word false (decimal w) ∷ colon ∷ pieces goes))) (side_back s sided)
+      ∙ ap (λ o. row_weight Endless x s (or_fault o Weight (colon ∷ pieces goes))) (weighs_back w light)
+      ∙ ap (λ r. row_moves x s w (some_names Endless r)) (names_back names ms each)
       ∙ moved ms some

@@ -7,6 +7,7 @@ use Rattle.std.proofs.lemmas.Bool.{cond-true, cond-false, lt-ltb, le-ltb, le-leb
 use Rattle.endless.specs.Games.{Place, Game, Reads, nth, opt, whose, weight, Among, first, later, row as words_of}
 use Rattle.endless.specs.Graph.{moves, edges}
 use Rattle.endless.proofs.Places.{ok_size, side_below, weight_below, to_place, has_move}
+use Rattle.drawing.specs.declared.kind.Kind.TheVariants.{Endless}
 use Rattle.drawing.specs.Form.{Entry, nothing, place, row}
 use Rattle.drawing.specs.Reading.{lines, held, index_of, many_moves, and_then, or_unknown, add_new, name_line, name_lines, goals, word_line, word_lines, some_places, reading}
 use Rattle.drawing.specs.Drawn.{with_entry, entries, Good, AllGood, Places, Drawn}
@@ -40,7 +41,7 @@ module _ (g : Game) (names : List (List ℕ)) (words : List ℕ) (r : Reads word
     printable_at : Printable (line_of g names k)
     printable_at = line_printable names (named names k) (n.each k (omega (arith, n.many))) (whose g k) (side_below r k) (weight g k) (weight_below r k) (moves g k) (some_move (moves g k) (has_move r k l)) each
 
-    held_at : held (line_of g names k) ≡ place said
+    held_at : held Endless (line_of g names k) ≡ place said
     held_at = line_held names (named names k) (n.each k (omega (arith, n.many))) (whose g k) (side_below r k) (weight g k) (weight_below r k) (moves g k) (some_move (moves g k) (has_move r k l)) each
 
   abbrev some_lines : ℕ → ℕ → List (List ℕ)
@@ -50,8 +51,8 @@ module _ (g : Game) (names : List (List ℕ)) (words : List ℕ) (r : Reads word
   some_said a m = map (λ k. record { named = named names k; side = whose g k; weighs = weight g k; goes = map (named names) (moves g k) }) (range_with_len a m)
 
   -- the last line is empty
-  none_held : held [] ≡ nothing
-  none_held = ap row (pieces_none [] refl)
+  none_held : held Endless [] ≡ nothing
+  none_held = ap (row Endless) (pieces_none [] refl)
 
   lines_back : (a m : ℕ) → a + m ≤ length g → lines (flat_map (line_text g names) (range_with_len a m)) ≡ some_lines a m ++ ([] ∷ [])
   unfolding line_text
@@ -62,14 +63,14 @@ module _ (g : Game) (names : List (List ℕ)) (words : List ℕ) (r : Reads word
       ∙ split_line (line_of g names a) rest (printable_at a (omega arith))
       ∙ ap (λ ls. line_of g names a ∷ ls) (lines_back (a + 1) m (omega arith))
 
-  all_good : (a m : ℕ) → a + m ≤ length g → AllGood (some_lines a m ++ ([] ∷ []))
+  all_good : (a m : ℕ) → a + m ≤ length g → AllGood Endless (some_lines a m ++ ([] ∷ []))
   all_good a zero h = (subst Good (sym none_held) tt, tt)
   all_good a (suc m) h = (subst Good (sym (held_at a (omega arith))) tt, all_good (a + 1) m (omega arith))
 
-  entries_back : (a m : ℕ) → a + m ≤ length g → entries (some_lines a m ++ ([] ∷ [])) ≡ some_said a m
+  entries_back : (a m : ℕ) → a + m ≤ length g → entries Endless (some_lines a m ++ ([] ∷ [])) ≡ some_said a m
   entries_back a zero h = ap (λ x. with_entry x []) none_held
   entries_back a (suc m) h =
-      ap (λ x. with_entry x (entries (some_lines (a + 1) m ++ ([] ∷ [])))) (held_at a (omega arith))
+      ap (λ x. with_entry x (entries Endless (some_lines (a + 1) m ++ ([] ∷ [])))) (held_at a (omega arith))
       ∙ ap (λ es. said a (omega arith) ∷ es) (entries_back (a + 1) m (omega arith))
 
   -- each entry has the name and the place of its index
@@ -91,15 +92,15 @@ module _ (g : Game) (names : List (List ℕ)) (words : List ℕ) (r : Reads word
         places_said (a + 1) ps (ap (λ k. drop k g) (add-one a) ∙ t.2),
       )
 
-  written_drawn : Drawn (sheet g names) names words
+  written_drawn : Drawn Endless (sheet g names) names words
   written_drawn =
       let ls = lines_back 0 (length g) (omega arith) in
-      let es = ap entries ls ∙ entries_back 0 (length g) (omega arith) in
+      let es = ap (entries Endless) ls ∙ entries_back 0 (length g) (omega arith) in
       record {
         game = g;
         reads = r;
         many = n.many;
-        good = subst AllGood (sym ls) (all_good 0 (length g) (omega arith));
+        good = subst (AllGood Endless) (sym ls) (all_good 0 (length g) (omega arith));
         named = ap (map (λ e. e.named)) (es ∙ ap (some_said 0) (sym n.many)) ∙ names_said 0 names refl;
         different = n.different;
         places = subst (λ x. Places names x g) (sym es) (places_said 0 g refl);
@@ -122,10 +123,10 @@ module _ (g : Game) (names : List (List ℕ)) (words : List ℕ) (r : Reads word
           let low : i < a = omega (arith, t.0, length-take-le a names (omega arith)) in
           absurd (n.different i a low l (sym (get_or-take a names i [] low) ∙ t.1))
 
-  names_read : (k a m : ℕ) → a + m ≤ length g → name_lines k (take a names) (some_lines a m ++ ([] ∷ [])) ≡ Ok (take (a + m) names)
+  names_read : (k a m : ℕ) → a + m ≤ length g → name_lines Endless k (take a names) (some_lines a m ++ ([] ∷ [])) ≡ Ok (take (a + m) names)
   names_read k a zero h =
       let same : a ≡ a + 0 = omega arith in
-      ap (λ x. and_then (name_line k (take a names) x) (λ more. name_lines (suc k) more [])) none_held ∙ ap (λ i. Ok (take i names)) same
+      ap (λ x. and_then (name_line k (take a names) x) (λ more. name_lines Endless (suc k) more [])) none_held ∙ ap (λ i. Ok (take i names)) same
   names_read k a (suc m) h =
       let same : (a + 1) + m ≡ a + suc m = omega arith in
       let many : length (take a names) ≡ a = length-take-le a names (omega (arith, n.many)) in
@@ -133,8 +134,8 @@ module _ (g : Game) (names : List (List ℕ)) (words : List ℕ) (r : Reads word
       ap (add_new k (take a names) (named names a)) (none_before a (omega (arith, n.many)))
       ∙ cond-true _ _ _ (lt-ltb (length (take a names)) 16384 (omega (arith, many, n.many, (ok_size words g r).1)))
       ∙ ap Ok (sym (take_more names a [] (omega (arith, n.many)))) in
-      ap (λ x. and_then (name_line k (take a names) x) (λ more. name_lines (suc k) more (some_lines (a + 1) m ++ ([] ∷ [])))) (held_at a (omega arith))
-      ∙ ap (λ x. and_then x (λ more. name_lines (suc k) more (some_lines (a + 1) m ++ ([] ∷ [])))) added
+      ap (λ x. and_then (name_line k (take a names) x) (λ more. name_lines Endless (suc k) more (some_lines (a + 1) m ++ ([] ∷ [])))) (held_at a (omega arith))
+      ∙ ap (λ x. and_then x (λ more. name_lines Endless (suc k) more (some_lines (a + 1) m ++ ([] ∷ [])))) added
       ∙ names_read (suc k) (a + 1) m (omega arith)
       ∙ ap (λ i. Ok (take i names)) same
 
@@ -145,20 +146,20 @@ module _ (g : Game) (names : List (List ℕ)) (words : List ℕ) (r : Reads word
       ∙ goals_read k (acc ++ (m ∷ [])) ms (λ i a. low i (later a))
       ∙ ap Ok (append_assoc acc (m ∷ []) ms)
 
-  words_read : (k a used : ℕ) (acc : List ℕ) (ps : List Place) → drop a g ≡ ps → a + length ps ≤ length g → used + edges ps ≤ 64000 → word_lines k names used acc (some_lines a (length ps) ++ ([] ∷ [])) ≡ Ok (acc ++ words_of ps)
-  words_read k a used acc [] e h few = ap (λ x. and_then (word_line k names used acc x) (λ p. word_lines (suc k) names p.0 p.1 [])) none_held ∙ ap Ok (sym (append-nil acc))
+  words_read : (k a used : ℕ) (acc : List ℕ) (ps : List Place) → drop a g ≡ ps → a + length ps ≤ length g → used + edges ps ≤ 64000 → word_lines Endless k names used acc (some_lines a (length ps) ++ ([] ∷ [])) ≡ Ok (acc ++ words_of ps)
+  words_read k a used acc [] e h few = ap (λ x. and_then (word_line k names used acc x) (λ p. word_lines Endless (suc k) names p.0 p.1 [])) none_held ∙ ap Ok (sym (append-nil acc))
   words_read k a used acc (p ∷ ps) e h few =
       let t = drop_cons g a p p ps e in
       let rest = some_lines (a + 1) (length ps) ++ ([] ∷ []) in
-      let here : held (line_of g names a) ≡ place (record { named = named names a; side = p.whose; weighs = p.weight; goes = map (named names) p.moves }) =
+      let here : held Endless (line_of g names a) ≡ place (record { named = named names a; side = p.whose; weighs = p.weight; goes = map (named names) p.moves }) =
       held_at a (omega arith) ∙ ap (λ o. place (record { named = named names a; side = opt o 0 (λ q. q.whose); weighs = opt o 0 (λ q. q.weight); goes = map (named names) (opt o [] (λ q. q.moves)) })) t.0 in
       let low : (m : ℕ) → Among m p.moves → m < length names = λ m x. omega (arith, n.many, to_place r a m (subst (Among m) (sym (ap (λ o. opt o [] (λ q. q.moves)) t.0)) x)) in
       let many : length (map (named names) p.moves) ≡ length p.moves = length-map p.moves (named names) in
       let start = acc ++ (p.whose ∷ p.weight ∷ length p.moves ∷ []) in
-      ap (λ x. and_then (word_line k names used acc x) (λ q. word_lines (suc k) names q.0 q.1 rest)) here
-      ∙ ap (λ l. and_then (cond (leb (used + l) 64000) (and_then {A = List ℕ} {B = ℕ × List ℕ} (goals k names (acc ++ (p.whose ∷ p.weight ∷ l ∷ [])) (map (named names) p.moves)) (λ more. Ok (used + l, more))) (Err (many_moves k))) (λ q. word_lines (suc k) names q.0 q.1 rest)) many
-      ∙ ap (λ x. and_then x (λ q. word_lines (suc k) names q.0 q.1 rest)) (cond-true _ _ _ (le-leb (used + length p.moves) 64000 (omega arith)))
-      ∙ ap (λ x. and_then (and_then {A = List ℕ} {B = ℕ × List ℕ} x (λ more. Ok (used + length p.moves, more))) (λ q. word_lines (suc k) names q.0 q.1 rest)) (goals_read k start p.moves low)
+      ap (λ x. and_then (word_line k names used acc x) (λ q. word_lines Endless (suc k) names q.0 q.1 rest)) here
+      ∙ ap (λ l. and_then (cond (leb (used + l) 64000) (and_then {A = List ℕ} {B = ℕ × List ℕ} (goals k names (acc ++ (p.whose ∷ p.weight ∷ l ∷ [])) (map (named names) p.moves)) (λ more. Ok (used + l, more))) (Err (many_moves k))) (λ q. word_lines Endless (suc k) names q.0 q.1 rest)) many
+      ∙ ap (λ x. and_then x (λ q. word_lines Endless (suc k) names q.0 q.1 rest)) (cond-true _ _ _ (le-leb (used + length p.moves) 64000 (omega arith)))
+      ∙ ap (λ x. and_then (and_then {A = List ℕ} {B = ℕ × List ℕ} x (λ more. Ok (used + length p.moves, more))) (λ q. word_lines Endless (suc k) names q.0 q.1 rest)) (goals_read k start p.moves low)
       ∙ words_read (suc k) (a + 1) (used + length p.moves) (start ++ p.moves) ps (ap (λ i. drop i g) (add-one a) ∙ t.2) (omega arith) (omega arith)
       ∙ ap Ok (append_assoc start p.moves (words_of ps) ∙ append_assoc acc (p.whose ∷ p.weight ∷ length p.moves ∷ []) (p.moves ++ words_of ps))
 
@@ -166,14 +167,14 @@ module _ (g : Game) (names : List (List ℕ)) (words : List ℕ) (r : Reads word
   some_names_read [] h = absurd (omega arith)
   some_names_read (x ∷ xs) h = refl
 
-  sheet_read : length (sheet g names) ≤ 1572864 → edges g ≤ 64000 → reading (sheet g names) ≡ Ok (names, words)
+  sheet_read : length (sheet g names) ≤ 1572864 → edges g ≤ 64000 → reading Endless (sheet g names) ≡ Ok (names, words)
   sheet_read short few =
       let all = some_lines 0 (length g) ++ ([] ∷ []) in
-      let found : name_lines 1 [] all ≡ Ok names = names_read 1 0 (length g) (omega arith) ∙ ap Ok (take_all (0 + length g) names (omega (arith, n.many))) in
+      let found : name_lines Endless 1 [] all ≡ Ok names = names_read 1 0 (length g) (omega arith) ∙ ap Ok (take_all (0 + length g) names (omega (arith, n.many))) in
       cond-false _ _ _ (le-ltb 1572864 (length (sheet g names)) short)
-      ∙ ap (λ l. and_then (and_then (name_lines 1 [] l) some_places) (λ xs. and_then (word_lines 1 xs 0 (length xs ∷ []) l) (λ ws. Ok (xs, ws)))) (lines_back 0 (length g) (omega arith))
-      ∙ ap (λ x. and_then (and_then x some_places) (λ xs. and_then (word_lines 1 xs 0 (length xs ∷ []) all) (λ ws. Ok (xs, ws)))) found
-      ∙ ap (λ x. and_then x (λ xs. and_then (word_lines 1 xs 0 (length xs ∷ []) all) (λ ws. Ok (xs, ws)))) (some_names_read names (omega (arith, n.many, (ok_size words g r).0)))
+      ∙ ap (λ l. and_then (and_then (name_lines Endless 1 [] l) some_places) (λ xs. and_then (word_lines Endless 1 xs 0 (length xs ∷ []) l) (λ ws. Ok (xs, ws)))) (lines_back 0 (length g) (omega arith))
+      ∙ ap (λ x. and_then (and_then x some_places) (λ xs. and_then (word_lines Endless 1 xs 0 (length xs ∷ []) all) (λ ws. Ok (xs, ws)))) found
+      ∙ ap (λ x. and_then x (λ xs. and_then (word_lines Endless 1 xs 0 (length xs ∷ []) all) (λ ws. Ok (xs, ws)))) (some_names_read names (omega (arith, n.many, (ok_size words g r).0)))
       ∙ ap (λ x. and_then x (λ ws. Ok (names, ws))) (words_read 1 0 0 (length names ∷ []) g refl (omega arith) (omega (arith, few)))
       ∙ ap (λ ws. Ok (names, ws)) (ap (λ k. k ∷ words_of g) n.many ∙ sym r.is)
 

@@ -4,7 +4,6 @@ use Rattle.std.specs.Option.{option_map, unwrap_or}
 use Rattle.std.specs.declared.alloc.Global.{Global}
 use Rattle.std.proofs.lemmas.List.{take_more, take_all, flat_map_more}
 use Rattle.std.proofs.lemmas.Bool.{cases_lt}
-use Rattle.std.proofs.lemmas.Option.{slice_get_within}
 use Rattle.claims.specs.declared.Claim.{Claim}
 use Rattle.claims.specs.declared.NoWords.{NoWords}
 use Rattle.claims.specs.declared.NoWords.TheVariants.{Unclaimed}
@@ -44,7 +43,7 @@ pub told_all : (names ls : List (List ℕ)) (k : ℕ) (claims : List (Option Cla
 told_all names ls k claims t l = (λ j h. t.good j (omega arith), subst (λ l. Tabled names (told_on l) claims) (take_all k ls l) t.tabled)
 
 module _ (names ls : List (List ℕ)) (k i : ℕ) (line : List ℕ) (turn : Turn ls k i line) where
-  pub told_more : (claims new : List (Option Claim)) → ToldTo names ls k claims → LineTold (i + 1) names (told_on (take k ls)) (said line) new (Ok tt) → (m : ℕ) → m ≡ k + 1 → ToldTo names ls m new
+  pub told_more : (claims new : List (Option Claim)) → ToldTo names ls k claims → LineTold i names (told_on (take k ls)) (said line) new (Ok tt) → (m : ℕ) → m ≡ k + 1 → ToldTo names ls m new
   told_more claims new t h m e = record {
     good = λ j l. ⊎_elim (λ b. t.good j b) (λ b. subst (λ l. Good (said l)) (turn.is ∙ ap (λ n. get_or ls n []) (omega (arith, e, l, b))) h.0) (cases_lt j k);
     tabled = subst (λ l. Tabled names l new) (sym longer) h.1;
@@ -53,8 +52,8 @@ module _ (names ls : List (List ℕ)) (k i : ℕ) (line : List ℕ) (turn : Turn
       longer : told_on (take m ls) ≡ told_on (take k ls) ++ told_in (said line)
       longer = ap told_on (ap (λ n. take n ls) e ∙ take_more ls k [] turn.within ∙ ap (λ l. take k ls ++ (l ∷ [])) (sym turn.is)) ∙ sym (flat_map_more (λ l. told_in (said l)) [] (take k ls) line)
 
-pub told_wrong : (text : List ℕ) (names : List (List ℕ)) (k i : ℕ) (line : List ℕ) → Turn (lines text) k i line → (e : AnswerRefusal) → SaysOfLine (i + 1) names (told_on (take k (lines text))) (said line) e → Says text names e
-told_wrong text names k i line turn e h = whole e (k, turn.within, subst (λ l. SaysOfLine (k + 1) names (told_on (take k (lines text))) (said l) e) turn.is (subst (λ n. SaysOfLine (n + 1) names (told_on (take k (lines text))) (said line) e) turn.index h))
+pub told_wrong : (text : List ℕ) (names : List (List ℕ)) (k i : ℕ) (line : List ℕ) → Turn (lines text) k i line → (e : AnswerRefusal) → SaysOfLine i names (told_on (take k (lines text))) (said line) e → Says text names e
+told_wrong text names k i line turn e h = whole e (k, turn.within, subst (λ l. SaysOfLine (k + 1) names (told_on (take k (lines text))) (said l) e) turn.is (subst (λ n. SaysOfLine n names (told_on (take k (lines text))) (said line) e) turn.number h))
   where
     whole : (e : AnswerRefusal) → SaysOfSome text names e → Says text names e
     whole (Fault n f) h = h

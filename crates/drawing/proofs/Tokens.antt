@@ -62,6 +62,3 @@ module _ (bs : List ℕ) (n : ℕ) (u : IsUtf8 bs) (is : closing false bs ≡ So
 
   pub cut_closed : IsCharBoundary bs (n + 1)
   cut_closed = let t = closing_at false bs n is in IsCharBoundary-after_ascii bs n u t.0 (omega (arith, t.1))
-
-pub cut_first : (bs : List ℕ) (m : ℕ) → IsUtf8 bs → (length bs ≡ 0 → ⊥) → get_or bs 0 0 ≡ m → m < 128 → IsCharBoundary bs 1
-cut_first bs m u some e low = IsCharBoundary-after_ascii bs 0 u (omega arith) (omega arith)

@@ -1,5 +1,5 @@
 -- The answer that a text tells, and what is wrong with a text that tells none.
-use Rattle.std.specs.Prelude.{◌≡◌, ℕ, ◌+◌, ◌<◌, List, [], ◌++◌, length, take, Some, None, Ok, Err, Option, Result, string_bytes, slice_get, slice_index_or, ◌⊎◌, ◌≢◌}
+use Rattle.std.specs.Prelude.{◌≡◌, ℕ, ◌+◌, ◌<◌, List, [], ◌++◌, length, take, Some, None, Ok, Err, Option, Result, string_bytes, slice_get, slice_index_or, ◌⊎◌}
 use Rattle.claims.specs.Answered.{Told, ToldOf, Lacks, Differ, Answered}
 use Rattle.claims.specs.Tables.{Tabled}
 use Rattle.claims.specs.declared.Claim.{Claim}

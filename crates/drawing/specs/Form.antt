@@ -3,6 +3,8 @@ use Rattle.std.specs.Prelude.{ℕ, zero, suc, ◌+◌, ◌-◌, ◌*◌, Bool, t
 use Rattle.std.specs.Char.{is_ascii_digit}
 use Rattle.std.specs.List.{prefix_len, position_or_len}
 use Rattle.std.specs.Str.{bytes_eq}
+use Rattle.drawing.specs.declared.kind.Kind.{Kind}
+use Rattle.drawing.specs.declared.kind.Kind.TheVariants.{Endless, WithEnds}
 use Rattle.drawing.specs.declared.refusal.Fault.{Fault}
 use Rattle.drawing.specs.declared.refusal.Fault.TheVariants.{Form, Side, Weight, NoMoves, LongName, EmptyName, Dash, Quote, Control}
 
@@ -169,31 +171,35 @@ names_of (colon ∷ ps) = Err Form
 names_of (wrong e ∷ ps) = Err e
 names_of (word quoted w ∷ ps) = with_name w (names_of ps)
 
--- a place has a move at least
-abbrev pub some_names : Result (List (List ℕ)) Fault → Result (List (List ℕ)) Fault
-some_names (Err e) = Err e
-some_names (Ok []) = Err NoMoves
-some_names (Ok (w ∷ ws)) = Ok (w ∷ ws)
+-- a place has a move at least, but in a game with ends
+abbrev pub no_names : Kind → Result (List (List ℕ)) Fault
+no_names Endless = Err NoMoves
+no_names WithEnds = Ok []
+
+abbrev pub some_names : Kind → Result (List (List ℕ)) Fault → Result (List (List ℕ)) Fault
+some_names k (Err e) = Err e
+some_names k (Ok []) = no_names k
+some_names k (Ok (w ∷ ws)) = Ok (w ∷ ws)
 
 -- NAME SIDE WEIGHT: NAME NAME ..
 abbrev pub row_moves : List ℕ → ℕ → ℕ → Result (List (List ℕ)) Fault → Line
 row_moves x s w (Err e) = bad e
 row_moves x s w (Ok ms) = place (record { named = x; side = s; weighs = w; goes = ms })
 
-abbrev pub row_colon : List ℕ → ℕ → ℕ → Result (List Piece) Fault → Line
-row_colon x s w (Err e) = bad e
-row_colon x s w (Ok ps) = row_moves x s w (some_names (names_of ps))
+abbrev pub row_colon : Kind → List ℕ → ℕ → ℕ → Result (List Piece) Fault → Line
+row_colon k x s w (Err e) = bad e
+row_colon k x s w (Ok ps) = row_moves x s w (some_names k (names_of ps))
 
-abbrev pub row_weight : List ℕ → ℕ → Result (ℕ × List Piece) Fault → Line
-row_weight x s (Err e) = bad e
-row_weight x s (Ok p) = row_colon x s p.0 (colon_first p.1)
+abbrev pub row_weight : Kind → List ℕ → ℕ → Result (ℕ × List Piece) Fault → Line
+row_weight k x s (Err e) = bad e
+row_weight k x s (Ok p) = row_colon k x s p.0 (colon_first p.1)
 
-abbrev pub row_side : List ℕ → Result (ℕ × List Piece) Fault → Line
-row_side x (Err e) = bad e
-row_side x (Ok p) = row_weight x p.0 (number_first weight_of Weight p.1)
+abbrev pub row_side : Kind → List ℕ → Result (ℕ × List Piece) Fault → Line
+row_side k x (Err e) = bad e
+row_side k x (Ok p) = row_weight k x p.0 (number_first weight_of Weight p.1)
 
-abbrev pub row : List Piece → Line
-row [] = nothing
-row (colon ∷ ps) = bad Form
-row (wrong e ∷ ps) = bad e
-row (word quoted w ∷ ps) = row_side w (number_first side_of Side ps)
+abbrev pub row : Kind → List Piece → Line
+row k [] = nothing
+row k (colon ∷ ps) = bad Form
+row k (wrong e ∷ ps) = bad e
+row k (word quoted w ∷ ps) = row_side k w (number_first side_of Side ps)

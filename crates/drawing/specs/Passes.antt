@@ -1,6 +1,7 @@
 -- What the passes over the lines give.
 use Rattle.std.specs.Prelude.{◌≡◌, ℕ, ◌<◌, ◌≤◌, List, [], ◌∷◌, length, Some, Ok, Err, vec_items, string_bytes, Result, Vec, MatchResult, slice_index_or}
 use Rattle.std.specs.declared.alloc.Global.{Global}
+use Rattle.drawing.specs.declared.kind.Kind.{Kind}
 use Rattle.drawing.specs.declared.names.Names.{Names}
 use Rattle.drawing.specs.declared.refusal.Refusal.{Refusal}
 use Rattle.drawing.specs.declared.refusal.Refusal.TheVariants.{Fault, Twice, Unknown, TooManyPlaces, TooManyMoves, TooLong, NoPlaces, Memory}
@@ -22,11 +23,11 @@ abbrev pub Added : ℕ → List ℕ → List (List ℕ) → List (List ℕ) → 
 Added n x old new r = MatchResult r (λ _. add_new n old x (index_of x old) ≡ Ok new) (λ e. Refuses (add_new n old x (index_of x old)) e)
 
 -- one line more is read
-abbrev pub Named : ℕ → List ℕ → List (List ℕ) → List (List ℕ) → Result (Unit {0}) Refusal → Type 0
-Named n line old new r = MatchResult r (λ _. name_line n old (held line) ≡ Ok new) (λ e. Refuses (name_line n old (held line)) e)
+abbrev pub Named : Kind → ℕ → List ℕ → List (List ℕ) → List (List ℕ) → Result (Unit {0}) Refusal → Type 0
+Named k n line old new r = MatchResult r (λ _. name_line n old (held k line) ≡ Ok new) (λ e. Refuses (name_line n old (held k line)) e)
 
-abbrev pub Gathered : List ℕ → Result Names Refusal → Type 0
-Gathered text r = MatchResult r (λ t. name_lines 1 [] (lines text) ≡ Ok t) (λ e. Refuses (name_lines 1 [] (lines text)) e)
+abbrev pub Gathered : Kind → List ℕ → Result Names Refusal → Type 0
+Gathered k text r = MatchResult r (λ t. name_lines k 1 [] (lines text) ≡ Ok t) (λ e. Refuses (name_lines k 1 [] (lines text)) e)
 
 -- each name stands at one place alone
 abbrev pub Apart : List (List ℕ) → Type 0
@@ -40,10 +41,10 @@ abbrev pub Moved : ℕ → List (List ℕ) → List ℕ → List (List ℕ) → 
 Moved n names old ms new r = MatchResult r (λ _. goals n names old ms ≡ Ok new) (λ e. Refuses (goals n names old ms) e)
 
 -- line n is written behind old
-abbrev pub Worded : ℕ → List (List ℕ) → ℕ → List ℕ → List ℕ → List ℕ → Result ℕ Refusal → Type 0
-Worded n names used line old new r =
-    MatchResult r (λ more. (more ≤ 64000) × (word_line n names used old (held line) ≡ Ok (more, new))) (λ e. Refuses (word_line n names used old (held line)) e)
+abbrev pub Worded : Kind → ℕ → List (List ℕ) → ℕ → List ℕ → List ℕ → List ℕ → Result ℕ Refusal → Type 0
+Worded k n names used line old new r =
+    MatchResult r (λ more. (more ≤ 64000) × (word_line n names used old (held k line) ≡ Ok (more, new))) (λ e. Refuses (word_line n names used old (held k line)) e)
 
-abbrev pub Written : List (List ℕ) → List ℕ → Result (Vec ℕ Global) Refusal → Type 0
-Written names text r =
-    MatchResult r (λ v. word_lines 1 names 0 (length names ∷ []) (lines text) ≡ Ok (vec_items v)) (λ e. Refuses (word_lines 1 names 0 (length names ∷ []) (lines text)) e)
+abbrev pub Written : Kind → List (List ℕ) → List ℕ → Result (Vec ℕ Global) Refusal → Type 0
+Written k names text r =
+    MatchResult r (λ v. word_lines k 1 names 0 (length names ∷ []) (lines text) ≡ Ok (vec_items v)) (λ e. Refuses (word_lines k 1 names 0 (length names ∷ []) (lines text)) e)

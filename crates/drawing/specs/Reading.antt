@@ -2,6 +2,7 @@
 use Rattle.std.specs.Prelude.{ℕ, suc, ◌+◌, cond, List, [], ◌∷◌, ◌++◌, length, Some, None, Ok, Err, Option, Result, ◌==◌, nat_le, nat_lt}
 use Rattle.std.specs.List.{slice_split}
 use Rattle.std.specs.Str.{bytes_eq}
+use Rattle.drawing.specs.declared.kind.Kind.{Kind}
 use Rattle.drawing.specs.declared.refusal.Fault.{Fault}
 use Rattle.drawing.specs.Form.{pieces, Line, nothing, place, bad, row}
 
@@ -15,9 +16,9 @@ bared [] = []
 bared (b ∷ []) = cond (b == 13) [] (b ∷ [])
 bared (b ∷ c ∷ bs) = b ∷ bared (c ∷ bs)
 
--- what a line holds
-abbrev pub held : List ℕ → Line
-held l = row (pieces (bared l))
+-- what a line holds, in a drawing of a kind
+abbrev pub held : Kind → List ℕ → Line
+held k l = row k (pieces (bared l))
 
 -- why a text is refused, and in which line
 pub data Why : Type 0 where
@@ -53,9 +54,9 @@ name_line n names (bad f) = Err (faulty n f)
 name_line n names (place e) = add_new n names e.named (index_of e.named names)
 
 -- the names of the places, in the order of their lines
-abbrev pub name_lines : ℕ → List (List ℕ) → List (List ℕ) → Result (List (List ℕ)) Why
-name_lines n names [] = Ok names
-name_lines n names (l ∷ ls) = and_then (name_line n names (held l)) (λ more. name_lines (suc n) more ls)
+abbrev pub name_lines : Kind → ℕ → List (List ℕ) → List (List ℕ) → Result (List (List ℕ)) Why
+name_lines k n names [] = Ok names
+name_lines k n names (l ∷ ls) = and_then (name_line n names (held k l)) (λ more. name_lines k (suc n) more ls)
 
 -- the places that the moves of line n go to
 abbrev pub or_unknown : ℕ → List ℕ → Option ℕ → Result ℕ Why
@@ -75,17 +76,17 @@ word_line n names used acc (place e) =
     (and_then (goals n names (acc ++ (e.side ∷ e.weighs ∷ length e.goes ∷ [])) e.goes) (λ more. Ok (used + length e.goes, more)))
     (Err (many_moves n))
 
-abbrev pub word_lines : ℕ → List (List ℕ) → ℕ → List ℕ → List (List ℕ) → Result (List ℕ) Why
-word_lines n names used acc [] = Ok acc
-word_lines n names used acc (l ∷ ls) = and_then (word_line n names used acc (held l)) (λ p. word_lines (suc n) names p.0 p.1 ls)
+abbrev pub word_lines : Kind → ℕ → List (List ℕ) → ℕ → List ℕ → List (List ℕ) → Result (List ℕ) Why
+word_lines k n names used acc [] = Ok acc
+word_lines k n names used acc (l ∷ ls) = and_then (word_line n names used acc (held k l)) (λ p. word_lines k (suc n) names p.0 p.1 ls)
 
 -- the names and the words, or why not
 abbrev pub some_places : List (List ℕ) → Result (List (List ℕ)) Why
 some_places [] = Err no_places
 some_places (x ∷ xs) = Ok (x ∷ xs)
 
-abbrev pub reading : List ℕ → Result (List (List ℕ) × List ℕ) Why
-reading text =
+abbrev pub reading : Kind → List ℕ → Result (List (List ℕ) × List ℕ) Why
+reading k text =
     cond (nat_lt 1572864 (length text)) (Err long)
-    (and_then (and_then (name_lines 1 [] (lines text)) some_places)
-    (λ names. and_then (word_lines 1 names 0 (length names ∷ []) (lines text)) (λ words. Ok (names, words))))
+    (and_then (and_then (name_lines k 1 [] (lines text)) some_places)
+    (λ names. and_then (word_lines k 1 names 0 (length names ∷ []) (lines text)) (λ words. Ok (names, words))))

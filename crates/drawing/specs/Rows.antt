@@ -1,5 +1,6 @@
 -- What the code reads of a line.
 use Rattle.std.specs.Prelude.{◌≡◌, ℕ, Bool, List, ◌∷◌, length, Some, None, Ok, Err, Option, Result}
+use Rattle.drawing.specs.declared.kind.Kind.{Kind}
 use Rattle.drawing.specs.declared.refusal.Fault.{Fault}
 use Rattle.drawing.specs.declared.token.Spelt.{Spelt}
 use Rattle.drawing.specs.declared.row.Row.{Row}
@@ -22,13 +23,13 @@ lengths (Ok ws) = Ok (length ws)
 lengths (Err e) = Err e
 
 -- the row is of the line, and its moves are still to be read
-pub record Rowed (ps : List Piece) (r : Row) : Type 0 where
+pub record Rowed (k : Kind) (ps : List Piece) (r : Row) : Type 0 where
   pub goes : List (List ℕ)
   pub unread : names_of (left r.moves) ≡ Ok goes
   pub many : length goes ≡ r.count
-  pub is : row ps ≡ place (record { named = meant r.name; side = number r.side; weighs = r.weight; goes = goes })
+  pub is : row k ps ≡ place (record { named = meant r.name; side = number r.side; weighs = r.weight; goes = goes })
 
-abbrev pub ReadRow : List Piece → Result (Option Row) Fault → Type 0
-ReadRow ps (Ok None) = row ps ≡ nothing
-ReadRow ps (Ok (Some r)) = Rowed ps r
-ReadRow ps (Err e) = row ps ≡ bad e
+abbrev pub ReadRow : Kind → List Piece → Result (Option Row) Fault → Type 0
+ReadRow k ps (Ok None) = row k ps ≡ nothing
+ReadRow k ps (Ok (Some r)) = Rowed k ps r
+ReadRow k ps (Err e) = row k ps ≡ bad e

@@ -4,6 +4,7 @@ use Rattle.std.specs.List.{range_with_len}
 use Rattle.std.specs.Fmt.{decimal}
 use Rattle.endless.specs.Games.{Game, Reads, whose, weight}
 use Rattle.endless.specs.Graph.{moves, edges}
+use Rattle.drawing.specs.declared.kind.Kind.TheVariants.{Endless}
 use Rattle.drawing.specs.Spelling.{spelling, IsName}
 use Rattle.drawing.specs.Drawn.{Drawn}
 use Rattle.drawing.specs.Reading.{reading}
@@ -37,5 +38,5 @@ pub record NamesOf (g : Game) (names : List (List ℕ)) : Type 0 where
 
 -- the text draws the words of the game, with these names; and where it is within the limits, it reads as them
 pub record Draws (text : List ℕ) (g : Game) (names : List (List ℕ)) : Type 0 where
-  pub drawn : (words : List ℕ) → Reads words g → Drawn text names words
-  pub read : (words : List ℕ) → Reads words g → length text ≤ 1572864 → edges g ≤ 64000 → reading text ≡ Ok (names, words)
+  pub drawn : (words : List ℕ) → Reads words g → Drawn Endless text names words
+  pub read : (words : List ℕ) → Reads words g → length text ≤ 1572864 → edges g ≤ 64000 → reading Endless text ≡ Ok (names, words)

@@ -84,8 +84,7 @@ fn tell_all(heap: Global, names: &Names, text: &str) -> Result<Claims, AnswerRef
     ensures { AllTold names.now text.now result }
 {
     let mut claims = Claims::new(heap, names.len() as usize)?;
-    for (i, line) in text.split('\n').enumerate() {
-        let number = i + 1;
+    for (number, line) in (1..).zip(text.split('\n')) {
         Line {
             heap,
             names,

@@ -1,5 +1,6 @@
 //! Why a drawing is refused.
 ghost use Rattle.std.specs.Prelude.{◌≡◌};
+ghost use Rattle.drawing.specs.declared.refusal.Refusal.TheVariants as refusal;
 ghost use Rattle.drawing.specs.declared.refusal.Refusal.TheVariants.{Memory};
 
 use crate::MOST_BYTES;
@@ -22,6 +23,15 @@ pub enum Fault {
     Dash,
     Quote,
     Control,
+}
+
+impl Fault {
+    /// The refusal of a drawing for this fault of the line of this number.
+    pub(crate) fn on(self, line: usize) -> Refusal
+        ensures { result ≡ refusal.Fault line self }
+    {
+        Refusal::Fault { line, fault: self }
+    }
 }
 
 /// Why a drawing is refused. Lines count from 1.

@@ -7,6 +7,7 @@ ghost use Rattle.drawing.specs.Lexed.{is_quoted, meant, left};
 ghost use Rattle.drawing.specs.Reading.{bared};
 ghost use Rattle.drawing.specs.Rows.{lengths, ReadRow};
 
+use crate::kind::Kind;
 use crate::line;
 use crate::refusal::Fault;
 use crate::token::{Spelt, Token, Tokens};
@@ -65,9 +66,9 @@ fn weight(word: Spelt<'_>) -> Option<u32>
 }
 
 /// How many moves the rest of a line names.
-fn count_moves(moves: Tokens<'_>) -> Result<usize, Fault>
+fn count_moves(moves: Tokens<'_>, kind: Kind) -> Result<usize, Fault>
     requires { length (left moves) < 2 ^ 63 }
-    ensures { result ≡ lengths (some_names (names_of (left moves.entry))) }
+    ensures { result ≡ lengths (some_names kind (names_of (left moves.entry))) }
 {
     let mut count = 0;
     for token in moves {
@@ -76,15 +77,15 @@ fn count_moves(moves: Tokens<'_>) -> Result<usize, Fault>
             Token::Colon => return Err(Fault::Form),
         }
     }
-    if count == 0 {
+    if count == 0 && kind == Kind::Endless {
         return Err(Fault::NoMoves);
     }
     Ok(count)
 }
 
-/// The place that the line holds, if it holds one.
-fn read_row(line: &str) -> Result<Option<Row<'_>>, Fault>
-    ensures { ReadRow (pieces line.now) result }
+/// The place that the line holds in a drawing of this kind, if it holds one.
+fn read_row(line: &str, kind: Kind) -> Result<Option<Row<'_>>, Fault>
+    ensures { ReadRow kind (pieces line.now) result }
 {
     let mut tokens = Tokens::of(line);
     let Some(first) = tokens.next() else {
@@ -96,7 +97,7 @@ fn read_row(line: &str) -> Result<Option<Row<'_>>, Fault>
     let side = side_of(tokens.word()?).ok_or(Fault::Side)?;
     let weight = weight(tokens.word()?).ok_or(Fault::Weight)?;
     tokens.colon()?;
-    let count = count_moves(tokens)?;
+    let count = count_moves(tokens, kind)?;
     Ok(Some(Row {
         name,
         side,
@@ -107,8 +108,8 @@ fn read_row(line: &str) -> Result<Option<Row<'_>>, Fault>
 }
 
 /// The same of a line that may end in a carriage return.
-pub(crate) fn read_line(line: &str) -> Result<Option<Row<'_>>, Fault>
-    ensures { ReadRow (pieces (bared line.now)) result }
+pub(crate) fn read_line(line: &str, kind: Kind) -> Result<Option<Row<'_>>, Fault>
+    ensures { ReadRow kind (pieces (bared line.now)) result }
 {
-    read_row(line::strip_return(line))
+    read_row(line::strip_return(line), kind)
 }

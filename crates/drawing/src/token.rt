@@ -143,20 +143,15 @@ pub(crate) fn next_token(line: &str) -> Result<Option<(Token<'_>, &str)>, Fault>
     ensures { Lexed (next_piece line.now) result }
 {
     let (_, text) = line.split_at(scan::blank_len(line.as_bytes()));
-    if text.is_empty() {
+    if text.is_empty() || text.starts_with('#') {
         return Ok(None);
     }
-    let first = text.as_bytes()[0];
-    if first == b'#' {
-        return Ok(None);
+    if let Some(rest) = text.strip_prefix(':') {
+        return Ok(Some((Token::Colon, rest)));
     }
-    if first == b':' {
-        return Ok(Some((Token::Colon, text.split_at(1).1)));
-    }
-    let (word, rest) = if first == b'"' {
-        quoted_word(text.split_at(1).1)?
-    } else {
-        bare_word(text)?
+    let (word, rest) = match text.strip_prefix('"') {
+        Some(rest) => quoted_word(rest)?,
+        None => bare_word(text)?,
     };
     Ok(Some((Token::Word(word), rest)))
 }

@@ -4,6 +4,7 @@ ghost use Rattle.drawing.specs.Form.{names_of};
 ghost use Rattle.drawing.specs.Lexed.{meant, left};
 ghost use Rattle.drawing.specs.Passes.{Found, Moved, Worded, Written};
 
+use crate::kind::Kind;
 use crate::names::Names;
 use crate::refusal::{Fault, Refusal};
 use crate::row;
@@ -14,10 +15,11 @@ use std::alloc::Global;
 /// The most moves of a drawing, those of all places together.
 pub const MOST_MOVES: usize = 64_000;
 
-/// A line by its number, and the names that its moves are looked up among.
+/// A line by its number, and the names that its moves are looked up among, in a drawing of this kind.
 #[derive(Clone, Copy)]
 struct Line<'a> {
     heap: Global,
+    kind: Kind,
     names: &'a Names,
     number: usize,
 }
@@ -39,16 +41,9 @@ impl<'a> Line<'a> {
         ensures { (ms : List (List ℕ)) → names_of (left moves.entry) ≡ Ok ms → Moved self.entry.number self.entry.names.now words.old.items ms words.new.items result }
     {
         for token in moves {
-            let token = token.map_err(|fault| Refusal::Fault {
-                line: self.number,
-                fault,
-            })?;
-            match token {
+            match token.map_err(|fault| fault.on(self.number))? {
                 Token::Word(word) => words.push(self.find(word)?)?,
-                Token::Colon => return Err(Refusal::Fault {
-                    line: self.number,
-                    fault: Fault::Form,
-                }),
+                Token::Colon => return Err(Fault::Form.on(self.number)),
             }
         }
         Ok(())
@@ -57,13 +52,10 @@ impl<'a> Line<'a> {
     /// Adds the words of the place that the line holds, if it holds one, and its moves to those used.
     fn write(self, line: &str, used: usize, words: &mut Vec<u32>) -> Result<usize, Refusal>
         requires { used ≤ 64000 }
-        ensures { Worded self.entry.number self.entry.names.now used line.now words.old.items words.new.items result }
+        ensures { Worded self.entry.kind self.entry.number self.entry.names.now used line.now words.old.items words.new.items result }
     {
-        let held = row::read_line(line).map_err(|fault| Refusal::Fault {
-            line: self.number,
-            fault,
-        })?;
-        let Some(row) = held else {
+        let Some(row) = row::read_line(line, self.kind).map_err(|fault| fault.on(self.number))?
+        else {
             return Ok(used);
         };
         if row.count > MOST_MOVES - used {
@@ -79,16 +71,21 @@ impl<'a> Line<'a> {
 }
 
 /// The words of the whole game.
-pub(crate) fn write_words(heap: Global, names: &Names, text: &str) -> Result<Vec<u32>, Refusal>
-    ensures { Written names.now text.now result }
+pub(crate) fn write_words(
+    heap: Global,
+    names: &Names,
+    text: &str,
+    kind: Kind,
+) -> Result<Vec<u32>, Refusal>
+    ensures { Written kind names.now text.now result }
 {
     let mut words = Vec::new(heap);
     words.push(names.len())?;
     let mut used = 0;
-    for (i, line) in text.split('\n').enumerate() {
-        let number = i + 1;
+    for (number, line) in (1..).zip(text.split('\n')) {
         used = Line {
             heap,
+            kind,
             names,
             number,
         }

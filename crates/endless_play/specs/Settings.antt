@@ -1,5 +1,5 @@
 -- What a play is played on, where it stands, and how it goes on.
-use Rattle.std.specs.Prelude.{◌≡◌, ◌≢◌, ℕ, ◌+◌, ◌-◌, ◌^◌, ◌<◌, min, List, length, Option, MatchOption}
+use Rattle.std.specs.Prelude.{◌≡◌, ◌≢◌, ℕ, ◌+◌, ◌-◌, ◌^◌, ◌<◌, min, Bool, true, List, length, slice_get, Some, Option, MatchOption}
 use Rattle.endless.specs.Games.{Game, whose, weight}
 use Rattle.endless.specs.Graph.{moves}
 use Rattle.endless.specs.Sides.{number}
@@ -7,16 +7,21 @@ use Rattle.endless.specs.declared.side.Side.{Side}
 use Rattle.playing.specs.Boards.{Stepped}
 use Rattle.playing.specs.Trails.{Past, Started, Came, Chosen, Back}
 
--- a game, an answer to it, the program's side, and how many moves a play goes on where the person has no choice
+-- a game, an answer to it, at which of its places a play ends, the program's side, and how many moves a play goes on where the person has no choice
 pub record Setting : Type 0 where
   pub game : Game
   pub answer : List ℕ
+  pub ends : List Bool
   pub side : Side
   pub most_alone : ℕ
 
 -- the person chooses at a place: it is the other side's move, and there is more than one
 abbrev pub HasChoice : Setting → ℕ → Type 0
 HasChoice t n = (whose t.game n ≢ number t.side) × (1 < length (moves t.game n))
+
+-- a play ends at a place
+abbrev pub Ends : Setting → ℕ → Type 0
+Ends t n = slice_get t.ends n ≡ Some true
 
 -- the place where a play stands, what it has come through, and how many moves came since the person's last choice
 pub record Standing : Type 0 where

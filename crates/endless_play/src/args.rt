@@ -1,11 +1,12 @@
 //! What the command line asks for.
 use crate::fault::Fault;
 use endless::side::Side;
-use forms::Form;
+use forms::{Form, Kind};
 use std::alloc::{AllocError, Global};
 use std::env::Args;
 
-pub const HELP: &str = "usage: endless_play [--moves N] [--side 0|1] [--format FORM] FILE [PLACE]
+pub const HELP: &str =
+    "usage: endless_play [--moves N] [--side 0|1] [--ends] [--format FORM] FILE [PLACE]
 
 Reads a game from FILE, solves it, and plays it with you from PLACE, or from
 the first place of the game. The program plays the side that wins there, by
@@ -16,6 +17,8 @@ input, a name or a number of the list, or a command.
   --moves N      where no choice of yours comes, go on by itself for N moves
                  and then end (1000 where nothing is said)
   --side 0|1     the program plays this side, also where it does not win
+  --ends         a place of a drawing may have no moves: a play ends there, and
+                 whoever is to move has lost
   --format FORM  FILE is a drawing (drawing), or in PGSolver's form (pgsolver);
                  where nothing is said its name tells: it is PGSolver's where
                  it ends in .pg
@@ -37,6 +40,8 @@ pub struct Job {
     pub place: Option<String>,
     /// How many moves it goes on by itself.
     pub moves: u64,
+    /// Whether its plays may end.
+    pub kind: Kind,
     /// The form of the file, where it is not told by its name.
     pub form: Option<Form>,
     /// The program's side, where it is not to be the winner's.
@@ -57,6 +62,7 @@ pub(crate) fn parse(args: Args) -> Result<Request, Fault> {
     let _ = args.next();
     let mut moves = 1000;
     let mut side = None;
+    let mut kind = Kind::Endless;
     let mut form = None;
     let mut names = None;
     while let Some(arg) = args.next() {
@@ -64,6 +70,7 @@ pub(crate) fn parse(args: Args) -> Result<Request, Fault> {
             "--help" => return Ok(Request::Help),
             "--moves" => moves = number(args.next().ok_or(Fault::NoMoves)?)?,
             "--side" => side = Some(side_named(args.next().ok_or(Fault::NoSide)?)?),
+            "--ends" => kind = Kind::WithEnds,
             "--format" => form = Some(form_named(args.next().ok_or(Fault::NoFormat)?)?),
             "--" => break,
             _ => names = Some(with_name(names, not_option(arg)?)?),
@@ -78,6 +85,7 @@ pub(crate) fn parse(args: Args) -> Result<Request, Fault> {
         file,
         place,
         moves,
+        kind,
         form,
         side,
     }))

@@ -70,7 +70,13 @@ impl fmt::Display for Fault {
             Fault::NoFormat => f.write_str("--format wants a word behind it: drawing or pgsolver"),
             Fault::NoFile => f.write_str("no file is named; --help says what can be"),
             Fault::ThirdName(name) => write!(f, "{name}: one file and one place at a time"),
-            Fault::Unread { file, why } => write!(f, "{file}: {why}"),
+            Fault::Unread { file, why } => {
+                write!(f, "{file}: {why}")?;
+                if why.lacks_moves() {
+                    f.write_str("\n  (with --ends a place may have none, and plays end there)")?;
+                }
+                Ok(())
+            }
             Fault::NoGame { file } => write!(f, "{file}: no game"),
             Fault::NoPlace { file, place } => write!(f, "{file}: there is no place named {place}"),
             Fault::Talk(error) => write!(f, "{error}"),

@@ -1,7 +1,7 @@
 //! What is read: a game from a file, and the person's lines.
 use crate::fault::Fault;
 use crate::wish::NoWish;
-use forms::{Form, Source, Unread, read_path};
+use forms::{Form, Kind, Source, Unread, read_path};
 use std::alloc::{AllocError, Global};
 use std::io;
 use std::io::{BufRead, Read};
@@ -10,12 +10,17 @@ use std::io::{BufRead, Read};
 const MOST_LINE: usize = 256;
 
 /// The game that stands in `file`: in the form that is asked for, or else in
-/// the one that the file's name tells.
+/// the one that the file's name tells. Where it is drawn, it is of this kind.
 // In both programs that read what is named on the command line: each has its own
 // `Fault`, and reading itself stands in `forms`.
-pub(crate) fn source(rt: &HostRuntime, file: &str, form: Option<Form>) -> Result<Source, Fault> {
+pub(crate) fn source(
+    rt: &HostRuntime,
+    file: &str,
+    form: Option<Form>,
+    kind: Kind,
+) -> Result<Source, Fault> {
     let heap = rt.alloc();
-    match read_path(rt, file, form.unwrap_or(Form::of_path(file))) {
+    match read_path(rt, file, form.unwrap_or(Form::of_path(file)), kind) {
         Ok(source) => Ok(source),
         Err(Unread::Memory) => Err(Fault::Memory),
         Err(why) => Err(Fault::Unread {

@@ -63,9 +63,9 @@ impl<'a> Play<'a> {
         })
     }
 
-    /// Plays until the person or the input ends it, or no choice comes.
+    /// Plays until it ends, the person or the input ends it, or no choice comes.
     pub(crate) fn run<R: BufRead>(&mut self, rt: &HostRuntime, input: &mut R) -> Result<(), Fault> {
-        // Only the input ends a play, so that there is nothing else to go over.
+        // A play may go on for ever, so that there is nothing else to go over.
         for _ in 0..u64::MAX {
             let Some(turn) = self.next_turn(rt, input)? else {
                 break;
@@ -73,6 +73,9 @@ impl<'a> Play<'a> {
             self.make(rt, turn)?;
         }
         println!(rt; "the play ends")?;
+        if self.table.is_end(self.place) {
+            return Ok(());
+        }
         self.tell_status(rt)
     }
 
@@ -83,6 +86,10 @@ impl<'a> Play<'a> {
         ensures unasked { IfOk result (Unasked self.now) }
     {
         let table = &self.table;
+        if table.is_end(self.place) {
+            table.show_end(rt, self.place, self.trail.made())?;
+            return Ok(None);
+        }
         table.show_place(rt, self.place)?;
         if table.has_choice(self.place) {
             return self.ask(rt, input);

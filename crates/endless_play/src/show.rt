@@ -37,10 +37,31 @@ impl Table<'_> {
         let here = self.name(place);
         let weight = self.board.weight(place);
         let whose = self.board.whose(place);
-        let own = whose == self.side;
-        let who = if own { "the program" } else { "you" };
+        let who = self.who(whose);
         println!(rt; "at {here}, weight {weight}: side {whose} moves, {who}")?;
         Ok(())
+    }
+
+    /// The place where the play ends, who has won it, and how many moves it had.
+    pub(crate) fn show_end(&self, rt: &HostRuntime, place: u32, made: u64) -> Result<(), Fault>
+        requires { place < length self.now.game }
+    {
+        let here = self.name(place);
+        let whose = self.board.whose(place);
+        let winner = whose.other();
+        let who = self.who(winner);
+        println!(rt; "at {here}: side {whose} has no move; side {winner} wins, {who}")?;
+        println!(rt; "moves made: {made}")?;
+        Ok(())
+    }
+
+    /// Who plays a side.
+    fn who(&self, side: Side) -> &'static str {
+        if side == self.side {
+            "the program"
+        } else {
+            "you"
+        }
     }
 
     /// The moves to choose from, by number and name.

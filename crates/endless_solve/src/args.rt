@@ -1,11 +1,12 @@
 //! What the command line asks for.
 use crate::fault::Fault;
 use endless::side::Side;
-use forms::Form;
+use forms::{Form, Kind};
 use std::alloc::{AllocError, AllocFailed, Global};
 use std::env::Args;
 
 pub const HELP: &str = "usage: endless_solve [--format FORM] [--output FORM] [--summary] [FILE ..]
+       endless_solve --ends [--format FORM] [--output FORM] [FILE ..]
        endless_solve [--format FORM] --check ANSWER [FILE]
        endless_solve [--format FORM] --reach NAME [--side 0|1] [FILE ..]
 
@@ -29,6 +30,9 @@ FILE each is told behind a line # FILE, up to the first that is refused.
   --output pg        the game in PGSolver's form
   --output summary   that it is a game, and how many places each side has
 
+  --ends             a place of a drawing may have no moves: a play ends there,
+                     and whoever is to move has lost; --output is places, answer
+                     or words
   --check ANSWER     look at the answer in the file ANSWER, as --output places or
                      solution prints it: right, or what is wrong with it; the
                      status is 1 where it is wrong
@@ -69,6 +73,27 @@ pub enum Output {
     Answer(Answer),
 }
 
+/// What can be printed of a game with ends.
+#[derive(Clone, Copy)]
+pub enum EndsOutput {
+    Places,
+    Answer,
+    Words,
+}
+
+impl EndsOutput {
+    /// The same form of output, if it is one.
+    fn of(output: Output) -> Option<EndsOutput> {
+        match output {
+            Output::Answer(Answer::Places) => Some(EndsOutput::Places),
+            Output::Answer(Answer::Words) => Some(EndsOutput::Answer),
+            Output::Game(Game::Words) => Some(EndsOutput::Words),
+            Output::Answer(Answer::Solution | Answer::Dot)
+            | Output::Game(Game::Drawing | Game::Pg | Game::Summary) => None,
+        }
+    }
+}
+
 /// A form of output by its name; a name that is none comes back.
 impl TryFrom<String> for Output {
     type Error = String;
@@ -98,6 +123,18 @@ pub enum Task {
     /// To print it, or its answer; and whether to tell besides how large it is,
     /// and who wins how much.
     Show { output: Output, summary: bool },
+    /// To print it, or its answer, where plays may end.
+    ShowWithEnds(EndsOutput),
+}
+
+impl Task {
+    /// Of which kind a game is of which it is asked.
+    pub(crate) fn kind(&self) -> Kind {
+        match self {
+            Task::ShowWithEnds(_) => Kind::WithEnds,
+            Task::Check(_) | Task::Reach { .. } | Task::Show { .. } => Kind::Endless,
+        }
+    }
 }
 
 /// Games to read, `-` for standard input, and what is asked of each.
@@ -116,6 +153,7 @@ struct Options {
     form: Option<Form>,
     output: Output,
     summary: bool,
+    ends: bool,
     check: Option<String>,
     reach: Option<String>,
     side: Side,
@@ -129,18 +167,29 @@ impl Options {
             form,
             output,
             summary,
+            ends,
             check,
             reach,
             side,
         } = self;
         let task = match (check, reach) {
             (Some(_), Some(_)) => return Err(Fault::TwoTasks),
+            (Some(_), None) | (None, Some(_)) if ends => return Err(Fault::EndsTask),
             (Some(answer), None) => Task::Check(answer),
             (None, Some(target)) => Task::Reach { target, side },
+            (None, None) if ends => Task::ShowWithEnds(ends_output(output, summary)?),
             (None, None) => Task::Show { output, summary },
         };
         Ok(Job { files, form, task })
     }
+}
+
+/// What is to be printed of a game with ends, which has no summary.
+fn ends_output(output: Output, summary: bool) -> Result<EndsOutput, Fault> {
+    if summary {
+        return Err(Fault::EndsOutput);
+    }
+    EndsOutput::of(output).ok_or(Fault::EndsOutput)
 }
 
 // No `Option<Job>`: its `None` would not say that help is asked for.
@@ -158,6 +207,7 @@ pub(crate) fn parse(heap: Global, args: Args) -> Result<Request, Fault> {
         form: None,
         output: Output::Answer(Answer::Places),
         summary: false,
+        ends: false,
         check: None,
         reach: None,
         side: Side::Even,
@@ -167,6 +217,7 @@ pub(crate) fn parse(heap: Global, args: Args) -> Result<Request, Fault> {
         match arg.as_str() {
             "--help" => return Ok(Request::Help),
             "--summary" => options.summary = true,
+            "--ends" => options.ends = true,
             "--output" => {
                 let name = args.next().ok_or(Fault::NoOutput)?;
                 options.output = Output::try_from(name).map_err(Fault::Output)?;

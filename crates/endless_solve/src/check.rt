@@ -9,7 +9,7 @@ use endless::graph::Places;
 use endless::side::Side;
 use endless::verdict::{Reason, Rejection};
 use endless::words::GameWords;
-use forms::{Form, Source};
+use forms::{Form, Kind, Source};
 use std::alloc::{AllocError, Global};
 use std::io;
 use std::io::{BufWriter, Write};
@@ -24,7 +24,7 @@ pub(crate) fn check(
     answer: &str,
 ) -> Result<ExitCode, Fault> {
     let heap = rt.alloc();
-    let Source { words, labels } = input::source(rt, file, form)?;
+    let Source { words, labels } = input::source(rt, file, form, Kind::Endless)?;
     let (answer, names) = answer::read(rt, answer, labels)?;
     let words = words.as_slice();
     let answer = answer.as_slice();

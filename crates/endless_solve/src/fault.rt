@@ -30,6 +30,10 @@ pub enum Fault {
     Side(String),
     /// An answer is to be looked at, and moves to be counted.
     TwoTasks,
+    /// An answer is to be looked at, or moves to be counted, where plays may end.
+    EndsTask,
+    /// Something is to be printed of a game with ends that is of games without.
+    EndsOutput,
     /// An answer is to be looked at for more than one game.
     OneGame,
     /// The game has no place of that name.
@@ -85,13 +89,25 @@ impl fmt::Display for Fault {
             Fault::NoSide => f.write_str("--side wants a side behind it: 0 or 1"),
             Fault::Side(word) => write!(f, "there is no side {word}; it is 0 or 1"),
             Fault::TwoTasks => f.write_str("--check and --reach are asked for one at a time"),
+            Fault::EndsTask => f.write_str(
+                "--check and --reach are of games without ends; leave out --ends",
+            ),
+            Fault::EndsOutput => f.write_str(
+                "with --ends the output is places, answer or words, and there is no --summary",
+            ),
             Fault::OneGame => f.write_str("--check looks at an answer to one game; name one FILE"),
             Fault::NoPlace { file, place } => write!(
                 f,
                 "{file}: there is no place named {place}; --output places lists the names"
             ),
             Fault::NoAnswer { file, why } => write!(f, "{file}: {why}"),
-            Fault::Unread { file, why } => write!(f, "{file}: {why}"),
+            Fault::Unread { file, why } => {
+                write!(f, "{file}: {why}")?;
+                if why.lacks_moves() {
+                    f.write_str("\n  (with --ends a place may have none, and plays end there)")?;
+                }
+                Ok(())
+            }
             Fault::Unsolved => f.write_str("the solver refused the game"),
             Fault::Unwritten(error) => write!(f, "{error}"),
             Fault::Memory => f.write_str("out of memory"),

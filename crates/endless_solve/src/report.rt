@@ -1,10 +1,9 @@
 //! What is printed of a game and its answer.
-ghost use Rattle.std.specs.Prelude.{◌<◌, length};
-
 use crate::names::name_of;
 use endless::answer::{PlaceId, goes_to, won_by};
 use endless::graph::Places;
 use endless::side::Side;
+use ends::rows::Rows;
 use std::io;
 use std::io::Write;
 
@@ -13,31 +12,30 @@ use std::io::Write;
 pub(crate) fn places<W: Write>(
     out: &mut W,
     names: &[String],
-    places: &Places,
+    words: &[u32],
     answer: &[u32],
 ) -> io::Result<()> {
-    for place in 0..places.len() {
-        place_line(out, names, places, place, answer)?;
+    for (place, row) in (0..).zip(Rows::of(words)) {
+        place_line(out, names, PlaceId(place), row.whose, answer)?;
     }
     Ok(())
 }
 
+// At a place without moves the winner is the other side, so that no move is
+// looked for there.
 fn place_line<W: Write>(
     out: &mut W,
     names: &[String],
-    places: &Places,
-    place: u32,
+    place: PlaceId,
+    whose: u32,
     answer: &[u32],
-) -> io::Result<()>
-    requires { place < length places.now }
-{
-    let at = PlaceId(place);
-    let (Some(winner), Some(to)) = (won_by(answer, at), goes_to(answer, at)) else {
+) -> io::Result<()> {
+    let (Some(winner), Some(to)) = (won_by(answer, place), goes_to(answer, place)) else {
         return Ok(());
     };
-    let name = name_of(names, at);
+    let name = name_of(names, place);
     let side = winner.0;
-    if places.is_own(side, place) {
+    if whose == u32::from(side) {
         let to = name_of(names, to);
         writeln!(out, "{name} {side} {to}")
     } else {
@@ -90,14 +88,13 @@ fn measure(places: &Places) -> Size {
 }
 
 /// The words: the first on a line of its own, then a line for each place.
-pub(crate) fn words<W: Write>(out: &mut W, places: &Places) -> io::Result<()> {
-    let many = places.len();
+pub(crate) fn words<W: Write>(out: &mut W, words: &[u32]) -> io::Result<()> {
+    let many = words.first().copied().unwrap_or(0);
     writeln!(out, "{many}")?;
-    for place in 0..many {
-        let head = places.head(place);
-        let (whose, weight, moves) = (head.whose, head.weight, head.moves);
+    for row in Rows::of(words) {
+        let (whose, weight, moves) = (row.whose, row.weight, row.moves.len());
         write!(out, "{whose} {weight} {moves}")?;
-        for to in places.moves(place) {
+        for to in row.moves {
             write!(out, " {to}")?;
         }
         writeln!(out)?;
@@ -114,4 +111,37 @@ fn line<W: Write>(out: &mut W, words: &[u32]) -> io::Result<()> {
         write!(out, "{word}")?;
     }
     out.write_all(b"\n")
+}
+
+#[cfg(test)]
+mod tests {
+    use super::*;
+    use crate::solution::solve_with_ends;
+    use std::test::Fail;
+
+    // day is side 0's, weight 3, to itself or shut-down; shut-down is side 1's,
+    // weight 0, and burst side 0's, weight 2, both without moves.
+    const WORDS: [u32; 12] = [3, 0, 3, 2, 0, 1, 1, 0, 0, 0, 2, 0];
+
+    #[test]
+    fn where_a_play_ends_the_other_side_wins(rt: HostRuntime) -> Result<(), Fail> {
+        let heap = rt.alloc();
+        let mut names = Vec::new(heap);
+        for name in ["day", "shut-down", "burst"] {
+            names.push(String::from_str(heap, name)?)?;
+        }
+        let Ok(answer) = solve_with_ends(&rt, &WORDS) else {
+            return Err(Fail::new("refused"));
+        };
+        let mut out = Vec::new(heap);
+        places(&mut out, names.as_slice(), &WORDS, answer.as_slice())?;
+        assert_eq!(rt;
+            out.as_slice(),
+            b"day 0 shut-down\nshut-down 0 -\nburst 1 -\n".as_slice()
+        );
+        let mut out = Vec::new(heap);
+        words(&mut out, &WORDS)?;
+        assert_eq!(rt; out.as_slice(), b"3\n0 3 2 0 1\n1 0 0\n0 2 0\n".as_slice());
+        Ok(())
+    }
 }

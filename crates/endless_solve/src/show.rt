@@ -1,5 +1,5 @@
 //! A game or its answer is printed.
-use crate::args::{Answer, Game, Output};
+use crate::args::{Answer, EndsOutput, Game, Output};
 use crate::fault::Fault;
 use crate::{input, report, solution, summary};
 use dot::Picture;
@@ -28,7 +28,7 @@ pub(crate) fn show(
             let game = GameWords::read(words).ok_or(Fault::Unsolved)?;
             let mut starts = vec![in heap; [0, 0]; game.len() as usize]?;
             let places = Places::new(game, starts.as_mut_slice());
-            show_game(rt, name, form, &places, labels)?;
+            show_game(rt, name, form, words, &places, labels)?;
             if summary {
                 summary::tell(rt, name, words, &solution::solve(rt, words)?)?;
             }
@@ -38,7 +38,7 @@ pub(crate) fn show(
             let game = GameWords::read(words).ok_or(Fault::Unsolved)?;
             let mut starts = vec![in heap; [0, 0]; game.len() as usize]?;
             let places = Places::new(game, starts.as_mut_slice());
-            show_answer(rt, form, &places, labels, solved.answer.as_slice())?;
+            show_answer(rt, form, words, &places, labels, solved.answer.as_slice())?;
             if summary {
                 summary::tell(rt, name, words, &solved)?;
             }
@@ -47,18 +47,45 @@ pub(crate) fn show(
     Ok(())
 }
 
+/// The game with ends in a file, or its answer, in a form of output.
+pub(crate) fn show_with_ends(
+    rt: &HostRuntime,
+    source: Source,
+    output: EndsOutput,
+) -> Result<(), Fault> {
+    let heap = rt.alloc();
+    let Source { words, labels } = source;
+    let words = words.as_slice();
+    let mut out = BufWriter::new(heap, rt.stdout())?;
+    match output {
+        EndsOutput::Words => report::words(&mut out, words)?,
+        EndsOutput::Answer => {
+            let answer = solution::solve_with_ends(rt, words)?;
+            report::answer(&mut out, answer.as_slice())?;
+        }
+        EndsOutput::Places => {
+            let answer = solution::solve_with_ends(rt, words)?;
+            let names = labels.into_names(heap)?;
+            report::places(&mut out, names.as_slice(), words, answer.as_slice())?;
+        }
+    }
+    out.flush()?;
+    Ok(())
+}
+
 /// The game, in a form of output.
 fn show_game<'a>(
     rt: &HostRuntime,
     name: &str,
     form: Game,
+    words: &[u32],
     places: &'a Places<'a>,
     labels: Labels,
 ) -> Result<(), Fault> {
     let heap = rt.alloc();
     let mut out = BufWriter::new(heap, rt.stdout())?;
     match form {
-        Game::Words => report::words(&mut out, places)?,
+        Game::Words => report::words(&mut out, words)?,
         Game::Summary => report::summary(&mut out, name, places)?,
         Game::Drawing => {
             let names = labels.into_names(heap)?;
@@ -88,6 +115,7 @@ fn show_game<'a>(
 fn show_answer<'a>(
     rt: &HostRuntime,
     form: Answer,
+    words: &[u32],
     places: &'a Places<'a>,
     labels: Labels,
     answer: &'a [u32],
@@ -98,7 +126,7 @@ fn show_answer<'a>(
         Answer::Words => report::answer(&mut out, answer)?,
         Answer::Places => {
             let names = labels.into_names(heap)?;
-            report::places(&mut out, names.as_slice(), places, answer)?;
+            report::places(&mut out, names.as_slice(), words, answer)?;
         }
         Answer::Dot => {
             let names = labels.into_names(heap)?;

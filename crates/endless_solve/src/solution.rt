@@ -1,6 +1,7 @@
 //! The answer for a game, in memory of its own.
 use crate::fault::Fault;
 use endless::solve as solve_words;
+use ends::solve_with_ends as solve_words_with_ends;
 use std::alloc::AllocError;
 use std::time::{Duration, Instant};
 
@@ -24,4 +25,15 @@ pub(crate) fn solve(rt: &HostRuntime, words: &[u32]) -> Result<Solved, Fault> {
     solve_words(words, answer.as_mut_slice(), work.as_mut_slice())?;
     let took = start.elapsed(rt)?;
     Ok(Solved { answer, took })
+}
+
+/// The same of a game with ends.
+pub(crate) fn solve_with_ends(rt: &HostRuntime, words: &[u32]) -> Result<Vec<u32>, Fault> {
+    let heap = rt.alloc();
+    let places = words.first().copied().unwrap_or(0) as usize;
+    let mut answer = vec![in heap; 0; places.saturating_mul(2)]?;
+    let each = words.len().saturating_add(places);
+    let mut work = vec![in heap; 0; each.saturating_mul(5).saturating_add(65536)]?;
+    solve_words_with_ends(words, answer.as_mut_slice(), work.as_mut_slice())?;
+    Ok(answer)
 }

@@ -20,13 +20,14 @@ pub(crate) fn run_all(rt: &HostRuntime, job: &Job) -> Result<ExitCode, Fault> {
 }
 
 fn run(rt: &HostRuntime, file: &str, job: &Job) -> Result<(), Fault> {
-    let source = input::source(rt, file, job.form)?;
+    let source = input::source(rt, file, job.form, job.task.kind())?;
     if job.files.len() > 1 {
         println!(rt; "# {file}")?;
     }
     match &job.task {
         Task::Show { output, summary } => show::show(rt, file, source, *output, *summary),
         Task::Reach { target, side } => reach::reach(rt, file, source, target.as_str(), *side),
+        Task::ShowWithEnds(output) => show::show_with_ends(rt, source, *output),
         // Looked at above, for one file.
         Task::Check(_) => Ok(()),
     }

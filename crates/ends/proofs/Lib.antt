@@ -3,3 +3,4 @@ mod Forms
 mod Theorems
 mod Mending
 mod Solving
+mod FirstRow

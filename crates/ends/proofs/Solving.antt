@@ -6,7 +6,7 @@ use Rattle.endless.specs.Games.{Game, Reads, row}
 use Rattle.endless.specs.Says.{WinsFrom, side, goes}
 use Rattle.endless.specs.Promises.{SolvedSays, SolvedPost}
 use Rattle.ends.specs.Ends.{ReadsEnds, made}
-use Rattle.ends.specs.Says.{needed, EndsSays, EndsPost}
+use Rattle.ends.specs.Says.{told, needed, EndsSays, EndsPost, WithoutPost}
 use Rattle.ends.specs.Mending.{Mended}
 use Rattle.ends.proofs.Made.{wins_made}
 use Rattle.ends.proofs.Forms.{length_made, side_fits, made_reads, reads_made, kept_whole}
@@ -24,6 +24,12 @@ no_game_post s w o h none = record {
   as_solve = λ g r l. absurd (none g (kept_whole s g r).0);
   parts = parts;
 }
+
+pub without_few : (s : List ℕ) (w : ℕ) (t : List ℕ) → w < length s + told s → WithoutPost s w t (Err Few)
+without_few s w t h = record { says = tt; few = (λ x. refl, λ e. h) }
+
+pub without_no_game : (s : List ℕ) (w : ℕ) (t : List ℕ) → length s + told s ≤ w → ((g : Game) → ReadsEnds s g → ⊥) → WithoutPost s w t (Err NoGame)
+without_no_game s w t room none = record { says = none; few = (λ x. absurd (omega arith), λ e. let z : ◌≡◌ {A = ℕ} 0 1 = cc in absurd (omega arith)) }
 
 -- the answer for the made words m is one for the words s
 module _ (s t m : List ℕ) (len : ℕ) (mended : Mended s t len) (is : m ≡ take len t) where
@@ -51,6 +57,16 @@ module _ (s t m : List ℕ) (len : ℕ) (mended : Mended s t len) (is : m ≡ ta
 
   size : (h : Game) → Reads m h → length h ≡ length game
   size h r = ap length (back h r) ∙ length_made 0 game
+
+  pub without_game : (g : Game) × Reads m g → (w : ℕ) → length s + told s ≤ w → WithoutPost s w t (Ok len)
+  unfolding game
+  without_game (h, r) w room = record {
+    says = (game, reads h r, mended.within, sym is ∙ words, subst (λ (l : List ℕ). Reads l (made game)) is (subst (λ (k : Game). Reads m k) (back h r) r));
+    few = (λ x. absurd (omega arith), λ e. let z : ◌≡◌ {A = ℕ} 0 1 = cc in absurd (omega arith));
+  }
+
+  pub without_none : ((g : Game) → Reads m g → ⊥) → (g : Game) → ReadsEnds s g → ⊥
+  without_none none g r = none (made g) (forth g r)
 
   module _ (o o' : List ℕ) where
     says : (r : Result (Unit {0}) Refusal) → SolvedSays m o o' r → EndsSays s o o' r

@@ -2,3 +2,4 @@
 pub mod Ends
 pub mod Says
 pub mod Mending
+pub mod Rows

@@ -1,5 +1,5 @@
 -- The theorems about games with ends, as types, and what the call promises.
-use Rattle.std.specs.Prelude.{◌≡◌, ℕ, ◌+◌, ◌*◌, ◌<◌, ◌≤◌, Bool, cond, T, ◌↔◌, List, ◌∷◌, length, drop, Ok, Err, Result, nat_lt, slice_index}
+use Rattle.std.specs.Prelude.{◌≡◌, ℕ, ◌+◌, ◌*◌, ◌<◌, ◌≤◌, Bool, cond, T, ◌↔◌, List, ◌∷◌, length, take, drop, Ok, Err, Result, nat_lt, slice_index}
 use Rattle.endless.specs.declared.refusal.Refusal.{Refusal}
 use Rattle.endless.specs.declared.refusal.Refusal.TheVariants.{Few, NoGame, NoPlace, OutFull}
 use Rattle.endless.specs.Games.{Game, Reads, row, Play, Wins}
@@ -70,3 +70,15 @@ pub record EndsPost (s : List ℕ) (w : ℕ) (o o' : List ℕ) (r : Result (Unit
   pub only : OnlyEnds s o' r
   pub as_solve : (g : Game) → Reads s g → needed s ≤ w → SolvedPost s w o o' r
   pub parts : Parts
+
+-- `without_ends`: the words of the game that is made of the one that the words are, or that they are none
+abbrev pub WithoutSays : List ℕ → List ℕ → Result ℕ Refusal → Type 0
+WithoutSays s t (Ok len) = (g : Game) × ReadsEnds s g × (len ≤ length t) × (take len t ≡ length g ∷ row (made g)) × Reads (take len t) (made g)
+WithoutSays s t (Err NoGame) = (g : Game) → ReadsEnds s g → ⊥
+WithoutSays s t (Err Few) = Unit {0}
+WithoutSays s t (Err OutFull) = ⊥
+WithoutSays s t (Err NoPlace) = ⊥
+
+pub record WithoutPost (s : List ℕ) (w : ℕ) (t : List ℕ) (r : Result ℕ Refusal) : Type 0 where
+  pub says : WithoutSays s t r
+  pub few : (w < length s + told s) ↔ (r ≡ Err Few)

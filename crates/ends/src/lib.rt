@@ -3,12 +3,13 @@
 #![tactic(auto)]
 
 ghost use Rattle.std.specs.Prelude.{◌≡◌, ◌+◌, ◌*◌, length, nat_le};
-ghost use Rattle.ends.specs.Says.{told, EndsPost};
+ghost use Rattle.ends.specs.Says.{told, EndsPost, WithoutPost};
 
 mod mend;
+pub mod rows;
 
-use endless::Refusal;
 use endless::words::MOST_PLACES;
+use endless::{Refusal, is_game};
 use mend::mend;
 
 /// Who wins each place of the game that these words are, and with which plan,
@@ -29,6 +30,27 @@ pub fn solve_with_ends(words: &[u32], out: &mut [u32], work: &mut [u32]) -> Resu
         return Err(Refusal::NoGame);
     };
     endless::solve(&made[0..len], out, work)
+}
+
+/// Writes to `made` the words of a game without ends in which the same plans
+/// win from the same places, and says how many they are: a place without moves
+/// has one there, to itself, and a weight by which whoever is to move there
+/// loses. `made` is lent, as many words as the game has and one for each place
+/// that the first word tells.
+pub fn without_ends(words: &[u32], made: &mut [u32]) -> Result<usize, Refusal>
+    ensures { WithoutPost words.now (length made.old) made.new result }
+{
+    let places = told(words);
+    if made.len() < places || made.len() - places < words.len() {
+        return Err(Refusal::Few);
+    }
+    let Some(len) = mend(words, made) else {
+        return Err(Refusal::NoGame);
+    };
+    if !is_game(&made[0..len]) {
+        return Err(Refusal::NoGame);
+    }
+    Ok(len)
 }
 
 /// How many places the first word tells, or as many as a game may have where

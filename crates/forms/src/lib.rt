@@ -7,6 +7,7 @@ mod read;
 mod source;
 mod unread;
 
+pub use drawing::Kind;
 pub use form::Form;
 pub use read::{read_from, read_path, read_text_from, read_text_path};
 pub use source::{Labels, Source};

@@ -6,8 +6,8 @@ ghost use Rattle.forms.specs.Shown.{Shows, LabelledAs, Says, Tells, TellsNoText}
 use crate::form::Form;
 use crate::source::{Labels, Source};
 use crate::unread::{Refused, Unread};
-use drawing::Drawing;
 use drawing::shown::shown_line;
+use drawing::{Drawing, Kind};
 use pgsolver::Listing;
 use std::alloc::{AllocError, Global};
 use std::fs::File;
@@ -38,15 +38,15 @@ fn refused_line(heap: Global, text: &str, why: &Refused) -> Result<Option<String
 }
 
 /// The game that a text shows, and what it calls the places.
-fn source_of(heap: Global, text: &str, form: Form) -> Result<Source, Refused>
-    ensures shows { IfOk result (λ s. Shows text.now s) }
+fn source_of(heap: Global, text: &str, form: Form, kind: Kind) -> Result<Source, Refused>
+    ensures shows { IfOk result (λ s. Shows kind text.now s) }
     ensures form { IfOk result (λ s. LabelledAs form s.labels) }
     ensures short { IfOk result (λ s. length text.now ≤ limit form) }
-    ensures says { IfErr result (λ e. Says text.now e) }
+    ensures says { IfErr result (λ e. Says kind text.now e) }
 {
     match form {
         Form::Drawing => {
-            let Drawing { words, names } = drawing::read(heap, text)?;
+            let Drawing { words, names } = drawing::read_as(heap, text, kind)?;
             let labels = Labels::Names(names);
             Ok(Source { words, labels })
         }
@@ -59,13 +59,13 @@ fn source_of(heap: Global, text: &str, form: Form) -> Result<Source, Refused>
 }
 
 /// The game that a text shows, or why it shows none, with the refused line.
-fn read_shown(heap: Global, text: &str, form: Form) -> Result<Source, Unread>
-    ensures shows { IfOk result (λ s. Shows text.now s) }
+fn read_shown(heap: Global, text: &str, form: Form, kind: Kind) -> Result<Source, Unread>
+    ensures shows { IfOk result (λ s. Shows kind text.now s) }
     ensures form { IfOk result (λ s. LabelledAs form s.labels) }
     ensures short { IfOk result (λ s. length text.now ≤ limit form) }
-    ensures tells { IfErr result (λ e. Tells text.now e) }
+    ensures tells { IfErr result (λ e. Tells kind text.now e) }
 {
-    match source_of(heap, text, form) {
+    match source_of(heap, text, form, kind) {
         Ok(source) => Ok(source),
         Err(why) => {
             let line = refused_line(heap, text, &why)?;
@@ -74,17 +74,22 @@ fn read_shown(heap: Global, text: &str, form: Form) -> Result<Source, Unread>
     }
 }
 
-/// Reads a game from a file or the like: the bytes that it still has, up to one more than a text of the form may have.
-pub fn read_from<R: Read + Drop>(heap: Global, reader: R, form: Form) -> Result<Source, Unread>
+/// Reads a game from a file or the like: the bytes that it still has, up to one more than a text of the form may have. Where it is drawn, it is a game of this kind; in PGSolver's form each place has a move.
+pub fn read_from<R: Read + Drop>(
+    heap: Global,
+    reader: R,
+    form: Form,
+    kind: Kind,
+) -> Result<Source, Unread>
     // What is read is a game that some text shows.
-    ensures game { IfOk result (λ s. (text : List ℕ) × Shows text s) }
+    ensures game { IfOk result (λ s. (text : List ℕ) × Shows kind text s) }
     ensures form { IfOk result (λ s. LabelledAs form s.labels) }
     // Of a reader whose bytes are known, it is the game that these show, or the error tells of them.
-    ensures shows { IfOk result (λ s. IfSome (R.remaining reader) (λ bytes. Shows bytes s)) }
-    ensures tells { IfErr result (λ e. IfSome (R.remaining reader) (λ bytes. Tells (take (limit form + 1) bytes) e)) }
+    ensures shows { IfOk result (λ s. IfSome (R.remaining reader) (λ bytes. Shows kind bytes s)) }
+    ensures tells { IfErr result (λ e. IfSome (R.remaining reader) (λ bytes. Tells kind (take (limit form + 1) bytes) e)) }
 {
     let text = read_text_from(heap, reader, form.most())?;
-    read_shown(heap, text.as_str(), form)
+    read_shown(heap, text.as_str(), form, kind)
 }
 
 /// The text that stands in the file of this path, up to one byte more than `most`.
@@ -93,12 +98,12 @@ pub fn read_text_path(rt: &HostRuntime, path: &str, most: usize) -> Result<Strin
 }
 
 /// Reads the game that stands in the file of this path.
-pub fn read_path(rt: &HostRuntime, path: &str, form: Form) -> Result<Source, Unread>
+pub fn read_path(rt: &HostRuntime, path: &str, form: Form, kind: Kind) -> Result<Source, Unread>
     // What is read is a game that some text shows.
-    ensures game { IfOk result (λ s. (text : List ℕ) × Shows text s) }
+    ensures game { IfOk result (λ s. (text : List ℕ) × Shows kind text s) }
     ensures form { IfOk result (λ s. LabelledAs form s.labels) }
 {
-    read_from(rt.alloc(), File::open(rt, path)?, form)
+    read_from(rt.alloc(), File::open(rt, path)?, form, kind)
 }
 
 #[cfg(test)]
@@ -108,7 +113,12 @@ mod tests {
 
     // What stands in a text: its words, and what its places are called.
     fn names(heap: Global, text: &str) -> Result<(Vec<u32>, Vec<String>), Fail> {
-        let Ok(Source { words, labels }) = read_from(heap, text.as_bytes(), Form::Drawing) else {
+        let Ok(Source { words, labels }) = read_from(
+            heap,
+            text.as_bytes(),
+            Form::Drawing,
+            Kind::Endless,
+        ) else {
             return Err(Fail::new("no drawing"));
         };
         match labels {
@@ -128,7 +138,7 @@ mod tests {
 
     // What is said of bytes that are no game in the form.
     fn unread(heap: Global, bytes: &[u8], form: Form) -> Result<String, Fail> {
-        match read_from(heap, bytes, form) {
+        match read_from(heap, bytes, form, Kind::Endless) {
             Ok(_) => Err(Fail::new("read")),
             Err(why) => Ok(why.to_string(heap)?),
         }
@@ -150,7 +160,7 @@ mod tests {
             unread(heap, b"", drawing)?.as_str(),
             "the drawing has no places; write a line NAME SIDE WEIGHT: NAME NAME .. for each"
         );
-        let Err(why) = read_from(heap, b"a 0 1: b".as_slice(), drawing) else {
+        let Err(why) = read_from(heap, b"a 0 1: b".as_slice(), drawing, Kind::Endless) else {
             return Err(Fail::new("read"));
         };
         let Unread::Refused { why, line } = why else {
@@ -173,7 +183,8 @@ mod tests {
     #[test]
     fn nodes_are_read_from_bytes(rt: HostRuntime) -> Result<(), Fail> {
         let text = "parity 7;\r\n7 3 1 7,2 \"up\";\r\n2 0 0 7;";
-        let Ok(source) = read_from(rt.alloc(), text.as_bytes(), Form::Pgsolver) else {
+        let Ok(source) = read_from(rt.alloc(), text.as_bytes(), Form::Pgsolver, Kind::Endless)
+        else {
             return Err(Fail::new("no game"));
         };
         assert_eq!(rt;

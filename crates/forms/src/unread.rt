@@ -1,4 +1,7 @@
 //! Why no game was read.
+ghost use Rattle.std.specs.Prelude.{◌↔◌, IsTrue};
+ghost use Rattle.forms.specs.Shown.{LacksMoves};
+
 use std::alloc::AllocError;
 use std::error::Error;
 use std::{fmt, io};
@@ -29,6 +32,24 @@ impl Refused {
             Refused::Drawing(why) => why.line(),
             Refused::Pgsolver(why) => why.line(),
         }
+    }
+}
+
+impl Unread {
+    /// Whether it is a drawing that is refused for a place without moves.
+    pub fn lacks_moves(&self) -> bool
+        ensures { IsTrue result ↔ LacksMoves self.now }
+    {
+        let Unread::Refused { why, .. } = self else {
+            return false;
+        };
+        let Refused::Drawing(why) = why else {
+            return false;
+        };
+        let drawing::Refusal::Fault { fault, .. } = why else {
+            return false;
+        };
+        *fault == drawing::Fault::NoMoves
     }
 }
 

@@ -3,5 +3,5 @@ use Rattle.drawing.specs.Reading.{lines}
 use Rattle.drawing.proofs.Tellings.{ToldTo}
 use Rattle.drawing.proofs.answer.tell_all.Given as goal
 
-abbrev pub invariant-loop-i : goal.invariant-loop-i
-invariant-loop-i l = ToldTo l.names (lines l.text) (length l.yielded) l.claims
+abbrev pub invariant-loop-number : goal.invariant-loop-number
+invariant-loop-number l = ToldTo l.names (lines l.text) (length l.yielded) l.claims

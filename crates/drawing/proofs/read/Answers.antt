@@ -1,5 +1,0 @@
-use Rattle.drawing.proofs.Wrongs.{answered}
-use Rattle.drawing.proofs.read.Goals as goal
-
-pub returns-clause-wrong : goal.returns-clause-wrong
-returns-clause-wrong c = answered c.args.text.now c.read_lines.result c.read_lines.ensures.answers
