@@ -7,7 +7,7 @@ mod answers;
 #[cfg(test)]
 mod tests {
     use drawing::shown::shown_line;
-    use drawing::{Fault, Name, Quoted, Refusal, draw, read, written};
+    use drawing::{Fault, Kind, Name, Quoted, Refusal, draw, read, read_as, written};
     use endless::graph::Places;
     use endless::words::GameWords;
     use std::alloc::Global;
@@ -34,6 +34,28 @@ mod tests {
         assert!(rt; d.names.len() == 2);
         assert_eq!(rt; d.names[1].as_str(), "down");
         Ok(())
+    }
+
+    #[test]
+    fn a_place_of_a_game_with_ends_may_have_no_moves(rt: HostRuntime) -> Result<(), Fail> {
+        let heap = rt.alloc();
+        let text = "day 0 3: day down\ndown 1 0: # the end\n";
+        let d = read_as(heap, text, Kind::WithEnds)?;
+        assert_eq!(rt;
+            d.words.as_slice(),
+            [2, 0, 3, 2, 0, 1, 1, 0, 0].as_slice()
+        );
+        assert_eq!(rt;
+            said(heap, text)?.as_str(),
+            "line 2: the place has no moves; name at least one place after the colon"
+        );
+        match read_as(heap, "down 1 0", Kind::WithEnds) {
+            Err(Refusal::Fault {
+                line: 1,
+                fault: Fault::Form,
+            }) => Ok(()),
+            _ => Err(Fail::new("another answer")),
+        }
     }
 
     #[test]
