@@ -71,6 +71,8 @@ fn count_moves(moves: Tokens<'_>, kind: Kind) -> Result<usize, Fault>
     ensures { result ≡ lengths (some_names kind (names_of (left moves.entry))) }
 {
     let mut count = 0;
+    // A loop: `try_fold` would be the same `match` in a closure, which counts on by its
+    // answer, and a `?` behind it.
     for token in moves {
         match token? {
             Token::Word(_) => count += 1,
