@@ -1,0 +1,9 @@
+mod Tests
+mod Carrying
+mod Gathers
+mod Within
+mod Sames
+mod Chains
+mod Zeros
+mod Groups
+mod Rounds

@@ -1,0 +1,6 @@
+//! Alike places made one: the smaller game, and its answer carried back.
+#![tactic(auto)]
+
+pub mod alike;
+pub mod gather;
+pub mod refine;
