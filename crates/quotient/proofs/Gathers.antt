@@ -8,16 +8,17 @@ use Rattle.quotient.proofs.Tests.{true_T, from_left, from_right}
 use Rattle.quotient.specs.Gathering.{Into, Gathered, Released, Nothing}
 
 -- of the first i moves
-pub record Gathering (ms parts set : List ℕ) (i : ℕ) (set' : List ℕ) : Type 0 where
+pub record Gathering (ms parts set : List ℕ) (i : ℕ) (set' : List ℕ) (count : ℕ) : Type 0 where
   pub came : (k : ℕ) → k < i → In (members set') (get_or parts (get_or ms k 0) 0)
   pub which : (q : ℕ) → In (members set') q → In (members set) q ⊎ Into ms parts q
-  pub few : size set' ≤ size set + i
+  pub many : size set' ≡ size set + count
+  pub few : count ≤ i
   pub kept : (q : ℕ) → In (members set) q → In (members set') q
 
-pub gathering_none : (ms parts set : List ℕ) → Gathering ms parts set 0 set
-gathering_none ms parts set = record { came = λ k h. absurd (omega arith); which = λ q x. inl x; few = omega arith; kept = λ q x. x }
+pub gathering_none : (ms parts set : List ℕ) → Gathering ms parts set 0 set 0
+gathering_none ms parts set = record { came = λ k h. absurd (omega arith); which = λ q x. inl x; many = omega arith; few = omega arith; kept = λ q x. x }
 
-module _ {ms parts set set' : List ℕ} {i : ℕ} (so_far : Gathering ms parts set i set') (more : i < length ms) where
+module _ {ms parts set set' : List ℕ} {i count : ℕ} (so_far : Gathering ms parts set i set' count) (more : i < length ms) where
   abbrev this : ℕ
   this = get_or parts (get_or ms i 0) 0
 
@@ -30,20 +31,22 @@ module _ {ms parts set set' : List ℕ} {i : ℕ} (so_far : Gathering ms parts s
   before k h (inr d) = inl (omega arith)
 
   -- the part is there already
-  pub gathering_had : members set' this ≡ true → Gathering ms parts set (i + 1) set'
+  pub gathering_had : members set' this ≡ true → Gathering ms parts set (i + 1) set' count
   gathering_had e = record {
     came = λ k h. came_more set' (λ q x. x) (true_T _ e) k (before k h (cases_eq k i));
     which = so_far.which;
+    many = so_far.many;
     few = omega (arith, so_far.few);
     kept = so_far.kept;
   }
 
   -- it comes
-  pub gathering_new : {set2 : List ℕ} → members set' this ≡ false → Inserted set' this set2 → Gathering ms parts set (i + 1) set2
+  pub gathering_new : {set2 : List ℕ} → members set' this ≡ false → Inserted set' this set2 → Gathering ms parts set (i + 1) set2 (count + 1)
   gathering_new {set2} e ins = record {
     came = λ k h. came_more set2 keeps (subst T (sym (ins.are this)) (from_left (eqb this this) (members set' this) (true_T _ (eq-eqb this this refl)))) k (before k h (cases_eq k i));
     which = λ q x. came q (cases_eq q this) (subst T (ins.are q) x);
-    few = omega (arith, so_far.few, ins.grows e);
+    many = omega (arith, so_far.many, ins.grows e);
+    few = omega (arith, so_far.few);
     kept = λ q x. keeps q (so_far.kept q x);
   }
     where
@@ -54,10 +57,11 @@ module _ {ms parts set set' : List ℕ} {i : ℕ} (so_far : Gathering ms parts s
       came q (inl s) x = inr (i, more, sym s)
       came q (inr d) x = so_far.which q (subst (λ (b : Bool). T (b || members set' q)) (ne_eqb q this d) x)
 
-pub gathering_all : {ms parts set set' : List ℕ} {i : ℕ} → length ms ≤ i → i ≤ length ms → Gathering ms parts set i set' → Gathered ms parts set set'
-gathering_all {ms} {parts} {set} {set'} {i} done within k = record {
+pub gathering_all : {ms parts set set' : List ℕ} {i count : ℕ} → length ms ≤ i → i ≤ length ms → Gathering ms parts set i set' count → Gathered ms parts set set' count
+gathering_all {ms} {parts} {set} {set'} {i} {count} done within k = record {
   came = λ q x. subst (λ (p : ℕ). In (members set') p) x.2 (k.came x.0 (omega (arith, x.1)));
   which = k.which;
+  many = k.many;
   few = omega (arith, k.few);
 }
 
@@ -90,7 +94,7 @@ releasing_all {ms} {parts} {set} {set'} {i} done k = record {
 }
 
 -- the parts that were gathered into nothing, released
-pub nothing_left : {ms parts set set' set2 : List ℕ} → Nothing set → Gathered ms parts set set' → Released ms parts set' set2 → Nothing set2
+pub nothing_left : {ms parts set set' set2 : List ℕ} {count : ℕ} → Nothing set → Gathered ms parts set set' count → Released ms parts set' set2 → Nothing set2
 nothing_left {ms} {parts} {set} none came rel q x = go (came.which q (rel.was q x))
   where
     go : In (members set) q ⊎ Into ms parts q → ⊥

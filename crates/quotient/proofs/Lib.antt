@@ -7,3 +7,7 @@ mod Chains
 mod Zeros
 mod Groups
 mod Rounds
+mod Ranks
+mod Members
+mod Putting
+mod Writing

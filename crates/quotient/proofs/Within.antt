@@ -28,7 +28,7 @@ module _ {g : Game} {parts : List ℕ} {words : ℕ} (parted : Parted g parts wo
   part_inside k h = omega (arith, part_below k h, parted.room)
 
 -- the set has the parts that m may move into, and so tells whether all are there that n may move into
-module _ (g : Game) {parts set set' : List ℕ} (n m : ℕ) {ns ms : List ℕ} (ns-are : ns ≡ moves g n) (ms-are : ms ≡ moves g m) (empty : Nothing set) (came : Gathered ms parts set set') where
+module _ (g : Game) {parts set set' : List ℕ} (n m : ℕ) {ns ms : List ℕ} (ns-are : ns ≡ moves g n) (ms-are : ms ≡ moves g m) (empty : Nothing set) {count : ℕ} (came : Gathered ms parts set set' count) where
   pub within_leads : ((q : ℕ) → Into ns parts q → In (members set') q) → Leads g parts n m
   within_leads all q x = go (came.which q (all q (subst (λ (l : List ℕ). Into l parts q) (sym ns-are) x)))
     where

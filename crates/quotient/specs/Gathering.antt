@@ -7,11 +7,12 @@ use Rattle.endless.specs.Bits.{members, size}
 abbrev pub Into : List ℕ → List ℕ → ℕ → Type 0
 Into ms parts q = (k : ℕ) × (k < length ms) × (slice_index parts (slice_index ms k) ≡ q)
 
--- the parts came to the set, and nothing else did
-pub record Gathered (ms parts set set' : List ℕ) : Type 0 where
+-- the parts came to the set, so many that it did not have, and nothing else did
+pub record Gathered (ms parts set set' : List ℕ) (count : ℕ) : Type 0 where
   pub came : (q : ℕ) → Into ms parts q → In (members set') q
   pub which : (q : ℕ) → In (members set') q → In (members set) q ⊎ Into ms parts q
-  pub few : size set' ≤ size set + length ms
+  pub many : size set' ≡ size set + count
+  pub few : count ≤ length ms
 
 -- the parts went out of the set, and nothing came
 pub record Released (ms parts set set' : List ℕ) : Type 0 where

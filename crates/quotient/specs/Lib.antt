@@ -3,3 +3,5 @@ pub mod Alike
 pub mod Says
 pub mod Gathering
 pub mod Refining
+pub mod Numbering
+pub mod Writing

@@ -4,18 +4,22 @@ ghost use Rattle.quotient.specs.Gathering.{Gathered, Released};
 
 use endless::bits;
 
-/// Puts the part that each of these moves leads into into the set.
-pub fn gather(moves: &[u32], parts: &[u32], set: &mut [u32])
+/// Puts the part that each of these moves leads into into the set. How many it
+/// did not have.
+pub fn gather(moves: &[u32], parts: &[u32], set: &mut [u32]) -> usize
     requires places { (k : ℕ) → k < length moves.now → slice_index moves.now k < length parts.now }
     requires inside { (k : ℕ) → k < length moves.now → slice_index parts.now (slice_index moves.now k) < 32 * length set.old }
-    ensures { Gathered moves.now parts.now set.old set.new }
+    ensures { Gathered moves.now parts.now set.old set.new result }
 {
+    let mut count = 0;
     for to in moves {
         let part = parts[*to as usize];
         if !bits::has(set, part) {
             bits::insert(set, part);
+            count += 1;
         }
     }
+    count
 }
 
 /// Takes the part that each of these moves leads into out of the set.

@@ -3,4 +3,6 @@
 
 pub mod alike;
 pub mod gather;
+pub mod number;
 pub mod refine;
+pub mod write;
