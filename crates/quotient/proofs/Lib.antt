@@ -11,3 +11,5 @@ mod Ranks
 mod Members
 mod Putting
 mod Writing
+mod Merging
+mod Calls

@@ -6,7 +6,7 @@ use Rattle.std.proofs.Math.Nat.{zero-div}
 use Rattle.endless.specs.Games.{Among, first, later}
 use Rattle.endless.specs.Sets.{In}
 use Rattle.endless.specs.Bits.{digit, members, size, Removed, Least, NoneFrom}
-use Rattle.endless.proofs.CountLaws.{none_count}
+use Rattle.endless.proofs.CountLaws.{none_count, count_none}
 use Rattle.endless.proofs.Reading.{both}
 use Rattle.quotient.specs.Alike.{Ascending}
 use Rattle.quotient.specs.Gathering.{Nothing}
@@ -161,3 +161,7 @@ emptying_all {set' = set'} none k = record {
     go : (q : ℕ) → In (members set') q ⊎ Among q k.written → Among q k.written
     go q (inl x) = absurd (both_ways (members set' q) (none q (k.kept q x).1) (T_true _ x))
     go q (inr a) = a
+
+pub size_nothing : (l : List ℕ) → size l ≡ 0 → Nothing l
+unfolding size
+size_nothing l e q x = let is = T_true (members l q) x in both_ways (members l q) (count_none (members l) (32 * length l) e q (member_below l q is)) is

@@ -5,3 +5,4 @@ pub mod Gathering
 pub mod Refining
 pub mod Numbering
 pub mod Writing
+pub mod Promises

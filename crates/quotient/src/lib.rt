@@ -5,4 +5,7 @@ pub mod alike;
 pub mod gather;
 pub mod number;
 pub mod refine;
+pub mod smaller;
 pub mod write;
+
+pub use smaller::merge;

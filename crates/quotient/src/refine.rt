@@ -148,6 +148,7 @@ pub fn settle(
     ensures parted { Parted places.now parts.new (length set.new) }
     ensures sound { Sound places.now parts.new }
     ensures stable { Stable places.now parts.new }
+    ensures empty { Nothing set.new }
 {
     parts.fill(0);
     while refine(places, parts, made, heads, links, set) {}
