@@ -94,17 +94,17 @@ plan_carries s g h to w plan won reads merged wins =
     ((carried reads merged w plan won wins, is_carried reads merged w plan won wins), λ back carries. carries_wins reads merged w plan won wins back carries)
 
 -- the places of the smaller game that a side wins, as a test
-abbrev given : Game → (ℕ → ℕ) → ℕ → ℕ → Bool
+abbrev pub given : Game → (ℕ → ℕ) → ℕ → ℕ → Bool
 given h sides v p = ltb p (length h) && eqb (sides p) v
 
-given_is : (h : Game) (sides : ℕ → ℕ) (v p : ℕ) → T (given h sides v p) → (p < length h) × (sides p ≡ v)
+pub given_is : (h : Game) (sides : ℕ → ℕ) (v p : ℕ) → T (given h sides v p) → (p < length h) × (sides p ≡ v)
 given_is h sides v p t = let u = both (ltb p (length h)) (eqb (sides p) v) t in (ltb→lt p (length h) u.0, eqb→eq (sides p) v u.1)
 
 is_given : (h : Game) (sides : ℕ → ℕ) (v p : ℕ) → (p < length h) × (sides p ≡ v) → T (given h sides v p)
 is_given h sides v p x = from_both (ltb p (length h)) (eqb (sides p) v) (lt→ltb p (length h) x.0) (true_T _ (eq-eqb (sides p) v x.1))
 
 -- the same plan wins from the same places, told otherwise
-wins_as : {g : Game} {w : ℕ} {plan : ℕ → ℕ} {P Q : ℕ → Type 0} → ((n : ℕ) → P n → Q n) → ((n : ℕ) → Q n → P n) → WinsFrom g w plan P → WinsFrom g w plan Q
+pub wins_as : {g : Game} {w : ℕ} {plan : ℕ → ℕ} {P Q : ℕ → Type 0} → ((n : ℕ) → P n → Q n) → ((n : ℕ) → Q n → P n) → WinsFrom g w plan P → WinsFrom g w plan Q
 wins_as to from wins = record {
   may = λ n x e. let t = wins.may n (from n x) e in (t.0, to _ t.1);
   held = λ n m x d a. to m (wins.held n m (from n x) d a);

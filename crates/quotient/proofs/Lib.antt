@@ -13,3 +13,4 @@ mod Putting
 mod Writing
 mod Merging
 mod Calls
+mod Answered

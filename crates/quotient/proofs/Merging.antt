@@ -188,6 +188,7 @@ module _ {g : Game} {parts : List ℕ} {set_words : ℕ} (parted : Parted g part
     smaller = smaller;
     reads = smaller_reads;
     merged = merged;
+    fewer = omega (arith, written.many, rank_le parts (length g));
     within = omega (arith, written.few, written.reading.bound);
     to_behind = drop_same (length g) _ _ long behind;
     small_behind = drop_same end _ _ words_long written.behind;

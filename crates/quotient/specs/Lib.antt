@@ -6,3 +6,4 @@ pub mod Refining
 pub mod Numbering
 pub mod Writing
 pub mod Promises
+pub mod Carrying

@@ -7,11 +7,12 @@ use Rattle.endless.specs.View.{words_of}
 use Rattle.quotient.specs.Alike.{Merged}
 use Rattle.quotient.specs.Says.{Theorems}
 
--- for each place of g which place of the smaller game it became, and so many words of that game, no more than g has; what stood behind is unchanged
+-- for each place of g which place of the smaller game it became, which has no more places than g, and so many words of that game, no more than g has; what stood behind is unchanged
 pub record Merges (g : Game) (to small to' small' : List ℕ) (len : ℕ) : Type 0 where
   pub smaller : Game
   pub reads : Reads (take len small') smaller
   pub merged : Merged g smaller (slice_index to')
+  pub fewer : length smaller ≤ length g
   pub within : len ≤ length (words_of g)
   pub to_behind : drop (length g) to' ≡ drop (length g) to
   pub small_behind : drop len small' ≡ drop len small

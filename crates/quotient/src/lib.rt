@@ -3,9 +3,11 @@
 
 pub mod alike;
 pub mod gather;
+pub mod merged;
 pub mod number;
 pub mod refine;
 pub mod smaller;
 pub mod write;
 
+pub use merged::solve_merged;
 pub use smaller::merge;
