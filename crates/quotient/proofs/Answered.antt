@@ -4,23 +4,23 @@ use Rattle.std.proofs.lemmas.Bool.{cases_eq}
 use Rattle.std.proofs.lemmas.List.{length-set, length-take-le}
 use Rattle.endless.specs.declared.refusal.Refusal.{Refusal}
 use Rattle.endless.specs.declared.refusal.Refusal.TheVariants.{Few, NoGame, NoPlace, OutFull}
-use Rattle.endless.specs.Games.{Game, Reads, whose, Among, May}
+use Rattle.endless.specs.Games.{Game, Reads, Among, May}
 use Rattle.endless.specs.Says.{WinsFrom, side, goes}
-use Rattle.endless.specs.Graph.{moves, edges}
+use Rattle.endless.specs.Graph.{moves}
 use Rattle.endless.specs.View.{words_of}
 use Rattle.endless.specs.Pulling.{Unchanged}
-use Rattle.endless.specs.Promises.{SolvedSays, SolvedPost, Only}
-use Rattle.endless.proofs.Among.{among_at, at_among}
+use Rattle.endless.specs.Promises.{SolvedSays, SolvedPost}
+use Rattle.endless.proofs.Among.{at_among}
 use Rattle.endless.proofs.Unique.{one_game}
 use Rattle.endless.proofs.Theorems.{further}
-use Rattle.endless.proofs.Working.{goes_at, side_at, put, put_goes, put_side, put_unchanged, unchanged_goes, same_side}
+use Rattle.endless.proofs.Working.{goes_at, side_at, put_goes, put_side, put_unchanged, unchanged_goes, same_side}
 use Rattle.endless.proofs.Solving.{behind_same}
 use Rattle.quotient.specs.Alike.{Merged}
 use Rattle.quotient.specs.Gathering.{Into}
 use Rattle.quotient.specs.Says.{CarriedBack}
 use Rattle.quotient.specs.Carrying.{Carries, SolvedMergedPost}
 use Rattle.quotient.specs.Promises.{Merges, MergedSays, MergedPost}
-use Rattle.quotient.proofs.Sames.{into_among, among_into}
+use Rattle.quotient.proofs.Sames.{among_into}
 use Rattle.quotient.proofs.Carrying.{theorems, wins_back, given, given_is, wins_as}
 use Rattle.quotient.proofs.Merging.{words_long}
 

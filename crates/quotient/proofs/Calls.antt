@@ -1,12 +1,11 @@
 -- What each answer of `merge` promises.
-use Rattle.std.proofs.Common.{◌≡◌, ℕ, ◌+◌, ◌*◌, ◌<◌, ◌≤◌, ◌⊎◌, Ok, Err, Result, List, length, refl, ap, ◌∙◌, arith}
+use Rattle.std.proofs.Common.{◌≡◌, ℕ, ◌+◌, ◌*◌, ◌≤◌, Err, Result, List, length, refl, ap, ◌∙◌, arith}
 use Rattle.std.proofs.lemmas.Result.{err_from_is_err_and}
 use Rattle.std.specs.Result.{IsErr, IsErrAnd}
 use Rattle.endless.specs.declared.refusal.Refusal.{Refusal}
 use Rattle.endless.specs.declared.refusal.Refusal.TheVariants.{Few, NoGame, NoPlace, OutFull}
-use Rattle.endless.specs.Games.{Game, Reads}
 use Rattle.endless.specs.Accepting.{Accepts}
-use Rattle.quotient.specs.Promises.{Merges, MergedSays, MergedPost}
+use Rattle.quotient.specs.Promises.{MergedSays, MergedPost}
 use Rattle.quotient.proofs.Carrying.{theorems}
 
 -- the words cannot be worked on

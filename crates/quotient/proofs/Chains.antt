@@ -1,5 +1,5 @@
 -- Chains of places, each linked to one before it.
-use Rattle.std.proofs.Common.{◌≡◌, ℕ, zero, suc, ◌+◌, ◌-◌, ◌<◌, ◌≤◌, ◌⊎◌, List, length, get_or, set, sym, refl, ap, ◌∙◌, subst, inl, inr, arith}
+use Rattle.std.proofs.Common.{◌≡◌, ℕ, zero, suc, ◌-◌, ◌<◌, ◌≤◌, ◌⊎◌, List, get_or, sym, refl, subst, inl, inr, arith}
 use Rattle.quotient.specs.Refining.{Linked, here, next, Descends}
 
 -- who stands in a chain is at its first place, or in what comes behind

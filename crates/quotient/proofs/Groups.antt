@@ -1,9 +1,9 @@
 -- Places put into new parts, one after the other.
-use Rattle.std.proofs.Common.{◌≡◌, ℕ, zero, suc, ◌+◌, ◌-◌, ◌<◌, ◌≤◌, ◌⊎◌, List, length, get_or, set, sym, refl, ap, ◌∙◌, subst, inl, inr, arith}
+use Rattle.std.proofs.Common.{◌≡◌, ℕ, suc, ◌+◌, ◌<◌, ◌≤◌, ◌⊎◌, List, length, get_or, set, sym, ap, ◌∙◌, subst, inl, inr, arith}
 use Rattle.std.proofs.lemmas.List.{get_or-set_same, get_or-set_other}
 use Rattle.std.proofs.lemmas.Nat.{mod_below}
 use Rattle.std.proofs.lemmas.Bool.{cases_eq, cases_lt}
-use Rattle.endless.specs.Games.{Game, Reads}
+use Rattle.endless.specs.Games.{Game}
 use Rattle.quotient.specs.Refining.{part, Same, bucket, Linked, here, next, Descends, Grouping, Grouped}
 use Rattle.quotient.proofs.Sames.{same_self, same_back, same_then, same_bucket}
 use Rattle.quotient.proofs.Chains.{linked_cases, linked_none, relink}

@@ -1,5 +1,5 @@
 -- The members of a set written one after the other, the least first.
-use Rattle.std.proofs.Common.{◌≡◌, ℕ, zero, suc, ◌+◌, ◌*◌, ◌/◌, ◌%◌, ◌^◌, ◌<◌, ◌≤◌, Bool, true, false, not, ◌&&◌, T, eqb, ◌⊎◌, List, [], ◌∷◌, ◌++◌, length, get_or, take, set, sym, refl, ap, ◌∙◌, subst, inl, inr, arith}
+use Rattle.std.proofs.Common.{◌≡◌, ℕ, ◌+◌, ◌*◌, ◌/◌, ◌%◌, ◌^◌, ◌<◌, ◌≤◌, Bool, true, false, not, ◌&&◌, T, eqb, ◌⊎◌, List, [], ◌∷◌, ◌++◌, length, get_or, take, set, sym, refl, ap, ◌∙◌, subst, inl, inr, arith}
 use Rattle.std.proofs.lemmas.Bool.{cases_eq, cases_lt, both_ways, eq-eqb, ne_eqb}
 use Rattle.std.proofs.lemmas.List.{get_or_past, get_or-set_other, take_more_set, length-append, append_assoc, append-nil}
 use Rattle.std.proofs.Math.Nat.{zero-div}
@@ -11,7 +11,7 @@ use Rattle.endless.proofs.Reading.{both}
 use Rattle.quotient.specs.Alike.{Ascending}
 use Rattle.quotient.specs.Gathering.{Nothing}
 use Rattle.quotient.specs.Numbering.{Emptied}
-use Rattle.quotient.proofs.Tests.{T_true, true_T, from_both}
+use Rattle.quotient.proofs.Tests.{T_true, true_T}
 
 -- ---- a member is a bit of one of the words
 

@@ -1,8 +1,8 @@
 -- What was written is the game in which places that are alike are one.
-use Rattle.std.proofs.Common.{◌≡◌, ℕ, zero, suc, ◌+◌, ◌-◌, ◌*◌, ◌<◌, ◌≤◌, Bool, ◌&&◌, T, ltb, leb, le→leb, lt→ltb, ltb→lt, ◌⊎◌, List, [], ◌∷◌, length, get_or, take, drop, sym, refl, ap, ◌∙◌, subst, inl, inr, arith}
+use Rattle.std.proofs.Common.{◌≡◌, ℕ, ◌+◌, ◌-◌, ◌*◌, ◌<◌, ◌≤◌, Bool, ◌&&◌, T, ltb, leb, le→leb, lt→ltb, ltb→lt, ◌⊎◌, List, [], ◌∷◌, length, get_or, take, drop, sym, refl, ap, ◌∙◌, subst, inl, inr, arith}
 use Rattle.std.proofs.lemmas.Bool.{cases_lt}
 use Rattle.std.proofs.lemmas.List.{ext_get_or, get_or-drop, length-drop, length-append}
-use mathlib.Core.Option.{Option, some, none}
+use mathlib.Core.Option.{Option, some}
 use Rattle.endless.specs.Games.{Place, Game, Reads, ok_ps, nth, opt, whose, weight, Among, May, row}
 use Rattle.endless.specs.Graph.{moves, edges}
 use Rattle.endless.specs.View.{words_of}
@@ -15,8 +15,8 @@ use Rattle.quotient.specs.Refining.{part, Parted, Same, Sound, Stable}
 use Rattle.quotient.specs.Numbering.{rank, Numbered, MadeOf}
 use Rattle.quotient.specs.Writing.{Written}
 use Rattle.quotient.specs.Promises.{Merges}
-use Rattle.quotient.proofs.Tests.{from_both, true_T}
-use Rattle.quotient.proofs.Ranks.{rank_le, rank_less, rank_one, ranked}
+use Rattle.quotient.proofs.Tests.{from_both}
+use Rattle.quotient.proofs.Ranks.{rank_le, rank_less, ranked}
 use Rattle.quotient.proofs.Sames.{into_among, among_into}
 use Rattle.quotient.proofs.Writing.{number_below}
 

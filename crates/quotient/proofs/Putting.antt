@@ -1,13 +1,12 @@
 -- The words of one place of the smaller game, written behind those before it.
-use Rattle.std.proofs.Common.{◌≡◌, ℕ, ◌+◌, ◌<◌, ◌≤◌, ◌⊎◌, T, List, [], ◌∷◌, ◌++◌, length, get_or, take, set, sym, refl, ap, ◌∙◌, subst, inl, inr, arith}
-use Rattle.std.proofs.lemmas.Bool.{both_ways}
+use Rattle.std.proofs.Common.{◌≡◌, ℕ, ◌+◌, ◌<◌, ◌≤◌, ◌⊎◌, List, [], ◌∷◌, ◌++◌, length, get_or, take, set, sym, ap, ◌∙◌, subst, inl, inr, arith}
 use Rattle.std.proofs.lemmas.List.{get_or-set_other, length-set, take_more_set, append_assoc, append-nil}
-use Rattle.endless.specs.Games.{Place, Game, row, whose, weight, Among}
+use Rattle.endless.specs.Games.{Game, whose, weight}
 use Rattle.endless.specs.Graph.{moves}
 use Rattle.endless.specs.Sets.{In}
-use Rattle.endless.specs.Bits.{members, size}
+use Rattle.endless.specs.Bits.{members}
 use Rattle.quotient.specs.Gathering.{Into, Gathered, Nothing}
-use Rattle.quotient.specs.Numbering.{Emptied, MadeOf, Put}
+use Rattle.quotient.specs.Numbering.{Emptied, Put}
 use Rattle.quotient.proofs.Members.{empty_size}
 
 -- three words in front

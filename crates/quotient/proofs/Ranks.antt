@@ -1,12 +1,11 @@
 -- How many parts have their first place below a place.
-use Rattle.std.proofs.Common.{◌≡◌, ℕ, zero, suc, ◌+◌, ◌-◌, ◌<◌, ◌≤◌, Bool, true, false, eqb, eqb→eq, ◌⊎◌, List, length, get_or, set, sym, refl, ap, ◌∙◌, subst, inl, inr, arith}
+use Rattle.std.proofs.Common.{◌≡◌, ℕ, zero, suc, ◌+◌, ◌-◌, ◌<◌, ◌≤◌, ◌⊎◌, List, length, get_or, set, sym, ap, ◌∙◌, inl, inr, arith}
 use Rattle.std.proofs.lemmas.List.{get_or-set_same, get_or-set_other}
 use Rattle.std.proofs.lemmas.Bool.{cases_eq, cases_lt, eq-eqb, ne_eqb}
 use Rattle.endless.specs.Games.{Game}
-use Rattle.endless.specs.Bits.{count}
-use Rattle.endless.proofs.CountLaws.{one_if, count_zero, count_suc, count_more, count_more_yes, count_more_no, count_le}
+use Rattle.endless.proofs.CountLaws.{count_zero, count_more, count_more_yes, count_more_no, count_le}
 use Rattle.quotient.specs.Refining.{part, Parted}
-use Rattle.quotient.specs.Numbering.{leads, rank, Numbered}
+use Rattle.quotient.specs.Numbering.{leads, rank}
 
 pub rank_none : (parts : List ℕ) → 0 ≡ rank parts 0
 rank_none parts = sym (count_zero (leads parts))

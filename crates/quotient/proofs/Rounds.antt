@@ -1,10 +1,10 @@
 -- A round: the new parts are as good as the old, and finer where they differ.
-use Rattle.std.proofs.Common.{◌≡◌, ℕ, zero, suc, ◌+◌, ◌-◌, ◌*◌, ◌<◌, ◌≤◌, true, false, ◌⊎◌, List, length, get_or, sym, refl, ap, ◌∙◌, subst, inl, inr, arith}
+use Rattle.std.proofs.Common.{◌≡◌, ℕ, zero, suc, ◌-◌, ◌<◌, ◌≤◌, true, false, ◌⊎◌, List, length, sym, ◌∙◌, subst, inl, inr, arith}
 use Rattle.std.proofs.lemmas.List.{ext_get_or}
 use Rattle.std.proofs.lemmas.Bool.{cases_lt}
 use Rattle.endless.specs.Games.{Game}
 use Rattle.endless.specs.Graph.{upto}
-use Rattle.quotient.specs.Refining.{part, Parted, Same, Grouped, Sound, Stable, coarse, Refined}
+use Rattle.quotient.specs.Refining.{part, Parted, Same, Grouped, coarse, Refined}
 use Rattle.quotient.proofs.Sames.{same_back, same_then, alike_same}
 
 upto_le : (f h : ℕ → ℕ) (n : ℕ) → ((k : ℕ) → k < n → f k ≤ h k) → upto f n ≤ upto h n

@@ -1,6 +1,6 @@
 -- Places that the parts do not tell apart: an equivalence, which places that are alike are in, and one bucket for each of its classes.
-use Rattle.std.proofs.Common.{◌≡◌, ℕ, zero, suc, ◌+◌, ◌-◌, ◌*◌, ◌%◌, ◌<◌, ◌≤◌, Bool, T, List, [], ◌∷◌, length, get_or, sym, refl, ap, ◌∙◌, subst, arith}
-use Rattle.endless.specs.Games.{Game, Reads, whose, weight, Among, first, later, May}
+use Rattle.std.proofs.Common.{◌≡◌, ℕ, ◌+◌, ◌-◌, ◌*◌, ◌%◌, ◌<◌, ◌≤◌, Bool, T, List, [], ◌∷◌, length, get_or, sym, refl, ap, ◌∙◌, subst, arith}
+use Rattle.endless.specs.Games.{Game, Reads, weight, Among, first, later}
 use Rattle.endless.specs.Graph.{moves}
 use Rattle.endless.proofs.Among.{among_at, at_among}
 use Rattle.endless.proofs.Places.{to_place}

@@ -1,6 +1,5 @@
 -- The moves of a place, and the parts that they lead into, have room; what a set of parts says of two places.
-use Rattle.std.proofs.Common.{◌≡◌, ℕ, ◌+◌, ◌*◌, ◌<◌, ◌≤◌, Bool, true, false, T, ◌⊎◌, List, length, get_or, sym, refl, ap, ◌∙◌, subst, inl, inr, arith}
-use Rattle.std.proofs.lemmas.Bool.{both_ways}
+use Rattle.std.proofs.Common.{◌≡◌, ℕ, ◌*◌, ◌<◌, Bool, true, false, ◌⊎◌, List, length, get_or, sym, refl, subst, inl, inr, arith}
 use Rattle.endless.specs.Games.{Game, Among}
 use Rattle.endless.specs.Sets.{In}
 use Rattle.endless.specs.Bits.{members}

@@ -1,15 +1,14 @@
 -- The words of the smaller game, place by place.
-use Rattle.std.proofs.Common.{◌≡◌, ℕ, zero, suc, ◌+◌, ◌<◌, ◌≤◌, ◌&&◌, T, ltb, lt→ltb, ◌⊎◌, List, [], ◌∷◌, ◌++◌, length, get_or, take, set, sym, refl, ap, ◌∙◌, subst, inl, inr, arith}
+use Rattle.std.proofs.Common.{◌≡◌, ℕ, zero, suc, ◌+◌, ◌<◌, ◌≤◌, T, ltb, lt→ltb, ◌⊎◌, List, [], ◌∷◌, ◌++◌, length, get_or, set, sym, refl, ap, ◌∙◌, subst, inl, inr, arith}
 use Rattle.std.proofs.lemmas.Bool.{cases_eq}
 use Rattle.std.proofs.lemmas.List.{get_or-set_other, take_more_set, append_assoc, length-append}
 use mathlib.Core.Option.{some}
 use Rattle.endless.specs.Games.{Place, Game, ok_ps, below, row, nth, Among, first, later}
 use Rattle.endless.specs.Graph.{moves, Reading}
-use Rattle.endless.specs.View.{words_of, Playable}
-use Rattle.endless.proofs.Among.{among_at, at_among}
-use Rattle.endless.proofs.Places.{Fine, ok_parts, ok_from, ok_size, side_below, weight_below, has_move, to_place}
+use Rattle.endless.specs.View.{words_of}
+use Rattle.endless.proofs.Among.{among_at}
+use Rattle.endless.proofs.Places.{Fine, ok_parts, ok_from, side_below, weight_below, has_move, to_place}
 use Rattle.endless.proofs.Reading.{reading_start, reading_next}
-use Rattle.quotient.specs.Gathering.{Into}
 use Rattle.quotient.specs.Refining.{part, Parted}
 use Rattle.quotient.specs.Numbering.{rank, Numbered, MadeOf, Put}
 use Rattle.quotient.specs.Writing.{Writes}

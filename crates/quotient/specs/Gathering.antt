@@ -1,5 +1,5 @@
 -- The parts that moves lead into, as bits: put into a set, and taken out.
-use Rattle.std.specs.Prelude.{◌≡◌, ℕ, ◌+◌, ◌<◌, ◌≤◌, ◌⊎◌, false, List, length, slice_index}
+use Rattle.std.specs.Prelude.{◌≡◌, ℕ, ◌+◌, ◌<◌, ◌≤◌, ◌⊎◌, List, length, slice_index}
 use Rattle.endless.specs.Sets.{In}
 use Rattle.endless.specs.Bits.{members, size}
 

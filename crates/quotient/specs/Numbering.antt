@@ -1,5 +1,5 @@
 -- The parts numbered by their first places, and their words.
-use Rattle.std.specs.Prelude.{◌≡◌, ℕ, ◌+◌, ◌*◌, ◌<◌, ◌≤◌, Bool, List, [], ◌∷◌, ◌++◌, length, take, ◌==◌, slice_index}
+use Rattle.std.specs.Prelude.{◌≡◌, ℕ, ◌+◌, ◌<◌, ◌≤◌, Bool, List, [], ◌∷◌, ◌++◌, length, take, ◌==◌, slice_index}
 use Rattle.endless.specs.Games.{Place, Game, row, whose, weight, Among}
 use Rattle.endless.specs.Graph.{moves}
 use Rattle.endless.specs.Sets.{In}

@@ -1,5 +1,5 @@
 -- Places parted by side, weight and the parts that they may move into, in rounds.
-use Rattle.std.specs.Prelude.{◌≡◌, ℕ, zero, suc, ◌+◌, ◌-◌, ◌*◌, ◌%◌, ◌<◌, ◌≤◌, Bool, true, false, T, List, [], ◌∷◌, length, slice_index}
+use Rattle.std.specs.Prelude.{◌≡◌, ℕ, suc, ◌+◌, ◌-◌, ◌*◌, ◌%◌, ◌<◌, ◌≤◌, Bool, true, false, T, List, [], ◌∷◌, length, slice_index}
 use Rattle.endless.specs.Games.{Game, whose, weight}
 use Rattle.endless.specs.Graph.{moves, upto}
 use Rattle.endless.specs.View.{Playable}

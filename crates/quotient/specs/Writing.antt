@@ -1,8 +1,8 @@
 -- The words of the smaller game, written place by place.
-use Rattle.std.specs.Prelude.{◌≡◌, ℕ, ◌+◌, ◌<◌, ◌≤◌, T, List, [], ◌∷◌, length, take, slice_index}
+use Rattle.std.specs.Prelude.{◌≡◌, ℕ, ◌<◌, ◌≤◌, T, List, ◌∷◌, length, take, slice_index}
 use Rattle.std.proofs.Math.Option.{some}
 use Rattle.endless.specs.Games.{Place, Game, ok_ps, row, nth}
-use Rattle.endless.specs.Graph.{moves, Reading}
+use Rattle.endless.specs.Graph.{Reading}
 use Rattle.endless.specs.View.{words_of}
 use Rattle.quotient.specs.Refining.{part}
 use Rattle.quotient.specs.Numbering.{rank, MadeOf}

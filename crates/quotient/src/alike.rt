@@ -44,7 +44,13 @@ fn leads(places: &Places, parts: &[u32], place: u32, other: u32, set: &mut [u32]
 
 /// Whether two places have the same side, weight and part, and may move into
 /// the same parts. The set is empty before and after.
-pub fn is_same(places: &Places, parts: &[u32], place: u32, other: u32, set: &mut [u32]) -> bool
+pub(crate) fn is_same(
+    places: &Places,
+    parts: &[u32],
+    place: u32,
+    other: u32,
+    set: &mut [u32],
+) -> bool
     requires place { place < length places.now }
     requires other { other < length places.now }
     requires parted { Parted places.now parts.now (length set.old) }

@@ -6,7 +6,7 @@ use endless::bits;
 
 /// Puts the part that each of these moves leads into into the set. How many it
 /// did not have.
-pub fn gather(moves: &[u32], parts: &[u32], set: &mut [u32]) -> usize
+pub(crate) fn gather(moves: &[u32], parts: &[u32], set: &mut [u32]) -> usize
     requires places { (k : ℕ) → k < length moves.now → slice_index moves.now k < length parts.now }
     requires inside { (k : ℕ) → k < length moves.now → slice_index parts.now (slice_index moves.now k) < 32 * length set.old }
     ensures { Gathered moves.now parts.now set.old set.new result }
@@ -23,7 +23,7 @@ pub fn gather(moves: &[u32], parts: &[u32], set: &mut [u32]) -> usize
 }
 
 /// Takes the part that each of these moves leads into out of the set.
-pub fn release(moves: &[u32], parts: &[u32], set: &mut [u32])
+pub(crate) fn release(moves: &[u32], parts: &[u32], set: &mut [u32])
     requires places { (k : ℕ) → k < length moves.now → slice_index moves.now k < length parts.now }
     requires inside { (k : ℕ) → k < length moves.now → slice_index parts.now (slice_index moves.now k) < 32 * length set.old }
     ensures { Released moves.now parts.now set.old set.new }

@@ -1,13 +1,13 @@
 //! Alike places made one: the smaller game, and its answer carried back.
 #![tactic(auto)]
 
-pub mod alike;
-pub mod gather;
+mod alike;
+mod gather;
 pub mod merged;
-pub mod number;
-pub mod refine;
+mod number;
+mod refine;
 pub mod smaller;
-pub mod write;
+mod write;
 
 pub use merged::solve_merged;
 pub use smaller::merge;

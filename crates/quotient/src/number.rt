@@ -7,7 +7,7 @@ use endless::graph::Places;
 
 /// Writes the number of each place's part to `numbers`, and says how many
 /// parts there are.
-pub fn number(places: &Places, parts: &[u32], numbers: &mut [u32]) -> u32
+pub(crate) fn number(places: &Places, parts: &[u32], numbers: &mut [u32]) -> u32
     requires parted { (words : ℕ) × Parted places.now parts.now words }
     requires room { length places.now ≤ length numbers.old }
     ensures numbered { Numbered places.now parts.now numbers.new }

@@ -130,7 +130,7 @@ fn refine(
 
 /// Parts the places by side, weight and the parts that they may move into,
 /// until no part is parted.
-pub fn settle(
+pub(crate) fn settle(
     places: &Places,
     parts: &mut [u32],
     made: &mut [u32],

@@ -60,7 +60,7 @@ fn write_place(
 
 /// Writes the words of the smaller game, of so many places, and says how many
 /// they are. The set is empty before and after.
-pub fn write(
+pub(crate) fn write(
     places: &Places,
     parts: &[u32],
     numbers: &[u32],

@@ -1,4 +1,4 @@
-use Rattle.std.proofs.Common.{◌*◌, ◌+◌, ◌<◌, length, subst, arith}
+use Rattle.std.proofs.Common.{◌<◌, length, subst, arith}
 use Rattle.endless.specs.Games.{Among}
 use Rattle.endless.proofs.Among.{at_among}
 use Rattle.endless.proofs.Places.{to_place}

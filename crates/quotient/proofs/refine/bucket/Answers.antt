@@ -1,7 +1,6 @@
-use Rattle.std.proofs.Common.{◌≡◌, ℕ, ◌+◌, ◌-◌, ◌*◌, ◌%◌, List, length, refl, ap, ◌∙◌, arith}
-use Rattle.endless.specs.Games.{weight}
+use Rattle.std.proofs.Common.{◌≡◌, ◌-◌, refl, ap, ◌∙◌}
 use Rattle.endless.specs.Graph.{moves}
-use Rattle.quotient.specs.Refining.{part, greatest, bucket}
+use Rattle.quotient.specs.Refining.{part, greatest}
 use Rattle.quotient.proofs.Within.{move_place, part_small}
 use Rattle.quotient.proofs.refine.bucket.Goals as goal
 

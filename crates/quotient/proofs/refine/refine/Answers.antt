@@ -1,8 +1,7 @@
-use Rattle.std.proofs.Common.{◌∙◌, sym, subst, arith}
+use Rattle.std.proofs.Common.{arith}
 use Rattle.std.proofs.lemmas.Bool.{both_ways}
 use Rattle.std.proofs.lemmas.Bool.Decides.{Decides-eqb}
 use Rattle.std.proofs.lemmas.Slice.Eq.{slice_eq-Decides}
-use Rattle.quotient.specs.Refining.{Refined}
 use Rattle.quotient.proofs.Rounds.{refined_still, refined_more}
 use Rattle.quotient.proofs.refine.refine.Goals as goal
 

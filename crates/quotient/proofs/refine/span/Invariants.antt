@@ -1,4 +1,4 @@
-use Rattle.std.proofs.Common.{◌≡◌, ℕ, ◌-◌, drop, max}
+use Rattle.std.proofs.Common.{◌≡◌, ◌-◌, drop, max}
 use Rattle.quotient.specs.Refining.{part, greatest}
 use Rattle.quotient.proofs.refine.span.Given as goal
 

@@ -1,4 +1,4 @@
-use Rattle.std.proofs.Common.{◌≡◌, ℕ, ◌+◌, ◌*◌, ◌≤◌, length, ap, ◌∙◌, subst, arith}
+use Rattle.std.proofs.Common.{◌≡◌, length, ap, ◌∙◌, subst, arith}
 use Rattle.endless.specs.Games.{Game}
 use Rattle.quotient.specs.Promises.{Merges}
 use Rattle.quotient.proofs.Members.{size_nothing}

@@ -1,4 +1,4 @@
-use Rattle.std.proofs.Common.{◌+◌, ◌<◌, length, arith}
+use Rattle.std.proofs.Common.{◌<◌, length, arith}
 use Rattle.std.proofs.lemmas.List.{length-set}
 use Rattle.quotient.proofs.Writing.{number_low, writes_none, writes_room, writes_else, writes_lead}
 use Rattle.quotient.proofs.write.write.Goals as goal

@@ -1,4 +1,4 @@
-use Rattle.std.proofs.Common.{◌+◌, ◌<◌, length, arith}
+use Rattle.std.proofs.Common.{arith}
 use Rattle.quotient.proofs.Members.{member_below, emptying_room, emptying_more, emptying_all}
 use Rattle.quotient.proofs.write.write_members.Goals as goal
 

@@ -1,6 +1,5 @@
-use Rattle.std.proofs.Common.{◌≡◌, ℕ, ◌+◌, ◌<◌, length, ap, subst, ◌∙◌, arith}
+use Rattle.std.proofs.Common.{length, ap, subst, ◌∙◌, arith}
 use Rattle.endless.specs.Games.{Among}
-use Rattle.endless.specs.Graph.{moves}
 use Rattle.endless.proofs.Among.{at_among}
 use Rattle.endless.proofs.Places.{to_place}
 use Rattle.quotient.proofs.Members.{empty_size}
