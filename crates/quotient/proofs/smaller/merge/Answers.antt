@@ -14,7 +14,7 @@ returns-then-to-len c =
     said t.0 (λ e. cc) (
       c.in_ok-accepted.accepted.game,
       t.1,
-      elim c.then-to-len.branch [ then-to-len-via-then-to-len w ↦ inl (omega (arith, w.if-to-len.true, c.len.ensures.len)) | then-to-len-via-else-to-len+then-smaller-words w ↦ inr w.if-smaller-words.true ],
+      elim c.then-to-len.branch [ then-to-len-via-then-to-len w ↦ inl (omega (arith, w.if-to-len.true, c.len.ensures.len)) | then-to-len-via-else-to-len+then-smaller-words w ↦ inr (omega (arith, w.if-smaller-words.true)) ],
       refl,
       refl,
     )
