@@ -5,7 +5,8 @@ use forms::Form;
 use std::alloc::{AllocError, AllocFailed, Global};
 use std::env::Args;
 
-pub const HELP: &str = "usage: endless_solve [--format FORM] [--output FORM] [--summary] [FILE ..]
+pub const HELP: &str =
+    "usage: endless_solve [--format FORM] [--output FORM] [--merge] [--summary] [FILE ..]
        endless_solve [--format FORM] --check ANSWER [FILE]
        endless_solve [--format FORM] --reach NAME [--side 0|1] [FILE ..]
 
@@ -36,6 +37,10 @@ FILE each is told behind a line # FILE, up to the first that is refused.
                      0 (with --side 1 side 1) can make sure that the play comes
                      to the place NAME: NAME NUMBER MOVE, with - for what there
                      is not
+  --merge            make places one that are alike: of the same side and weight,
+                     with moves to places that are alike; print the smaller game,
+                     in which each place is called as the first that became it,
+                     or find the answer through it
   --summary          besides, on standard error: how many places, moves and
                      different weights there are, how many places each side
                      wins, and how long that took
@@ -94,10 +99,18 @@ pub enum Task {
     /// Whether the answer in this file is one.
     Check(String),
     /// How soon a side can make sure of the place of this name.
-    Reach { target: String, side: Side },
-    /// To print it, or its answer; and whether to tell besides how large it is,
-    /// and who wins how much.
-    Show { output: Output, summary: bool },
+    Reach {
+        target: String,
+        side: Side,
+    },
+    /// To print it, or its answer; whether to do so through the smaller game in
+    /// which places that are alike are one; and whether to tell besides how large
+    /// it is, and who wins how much.
+    Show {
+        output: Output,
+        merge: bool,
+        summary: bool,
+    },
 }
 
 /// Games to read, `-` for standard input, and what is asked of each.
@@ -115,6 +128,7 @@ struct Options {
     files: Vec<String>,
     form: Option<Form>,
     output: Output,
+    merge: bool,
     summary: bool,
     check: Option<String>,
     reach: Option<String>,
@@ -128,6 +142,7 @@ impl Options {
             files,
             form,
             output,
+            merge,
             summary,
             check,
             reach,
@@ -137,7 +152,11 @@ impl Options {
             (Some(_), Some(_)) => return Err(Fault::TwoTasks),
             (Some(answer), None) => Task::Check(answer),
             (None, Some(target)) => Task::Reach { target, side },
-            (None, None) => Task::Show { output, summary },
+            (None, None) => Task::Show {
+                output,
+                merge,
+                summary,
+            },
         };
         Ok(Job { files, form, task })
     }
@@ -157,6 +176,7 @@ pub(crate) fn parse(heap: Global, args: Args) -> Result<Request, Fault> {
         files: Vec::new(heap),
         form: None,
         output: Output::Answer(Answer::Places),
+        merge: false,
         summary: false,
         check: None,
         reach: None,
@@ -166,6 +186,7 @@ pub(crate) fn parse(heap: Global, args: Args) -> Result<Request, Fault> {
     while let Some(arg) = args.next() {
         match arg.as_str() {
             "--help" => return Ok(Request::Help),
+            "--merge" => options.merge = true,
             "--summary" => options.summary = true,
             "--output" => {
                 let name = args.next().ok_or(Fault::NoOutput)?;
