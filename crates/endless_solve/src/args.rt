@@ -5,7 +5,8 @@ use forms::{Form, Kind};
 use std::alloc::{AllocError, AllocFailed, Global};
 use std::env::Args;
 
-pub const HELP: &str = "usage: endless_solve [--format FORM] [--output FORM] [--summary] [FILE ..]
+pub const HELP: &str =
+    "usage: endless_solve [--format FORM] [--output FORM] [--merge] [--summary] [FILE ..]
        endless_solve --ends [--format FORM] [--output FORM] [FILE ..]
        endless_solve [--format FORM] --check ANSWER [FILE]
        endless_solve [--format FORM] --reach NAME [--side 0|1] [FILE ..]
@@ -40,6 +41,10 @@ FILE each is told behind a line # FILE, up to the first that is refused.
                      0 (with --side 1 side 1) can make sure that the play comes
                      to the place NAME: NAME NUMBER MOVE, with - for what there
                      is not
+  --merge            make places one that are alike: of the same side and weight,
+                     with moves to places that are alike; print the smaller game,
+                     in which each place is called as the first that became it,
+                     or find the answer through it
   --summary          besides, on standard error: how many places, moves and
                      different weights there are, how many places each side
                      wins, and how long that took
@@ -119,10 +124,18 @@ pub enum Task {
     /// Whether the answer in this file is one.
     Check(String),
     /// How soon a side can make sure of the place of this name.
-    Reach { target: String, side: Side },
-    /// To print it, or its answer; and whether to tell besides how large it is,
-    /// and who wins how much.
-    Show { output: Output, summary: bool },
+    Reach {
+        target: String,
+        side: Side,
+    },
+    /// To print it, or its answer; whether to do so through the smaller game in
+    /// which places that are alike are one; and whether to tell besides how large
+    /// it is, and who wins how much.
+    Show {
+        output: Output,
+        merge: bool,
+        summary: bool,
+    },
     /// To print it, or its answer, where plays may end.
     ShowWithEnds(EndsOutput),
 }
@@ -152,6 +165,7 @@ struct Options {
     files: Vec<String>,
     form: Option<Form>,
     output: Output,
+    merge: bool,
     summary: bool,
     ends: bool,
     check: Option<String>,
@@ -166,6 +180,7 @@ impl Options {
             files,
             form,
             output,
+            merge,
             summary,
             ends,
             check,
@@ -177,19 +192,18 @@ impl Options {
             (Some(_), None) | (None, Some(_)) if ends => return Err(Fault::EndsTask),
             (Some(answer), None) => Task::Check(answer),
             (None, Some(target)) => Task::Reach { target, side },
-            (None, None) if ends => Task::ShowWithEnds(ends_output(output, summary)?),
-            (None, None) => Task::Show { output, summary },
+            (None, None) if ends && (merge || summary) => return Err(Fault::EndsOutput),
+            (None, None) if ends => {
+                Task::ShowWithEnds(EndsOutput::of(output).ok_or(Fault::EndsOutput)?)
+            }
+            (None, None) => Task::Show {
+                output,
+                merge,
+                summary,
+            },
         };
         Ok(Job { files, form, task })
     }
-}
-
-/// What is to be printed of a game with ends, which has no summary.
-fn ends_output(output: Output, summary: bool) -> Result<EndsOutput, Fault> {
-    if summary {
-        return Err(Fault::EndsOutput);
-    }
-    EndsOutput::of(output).ok_or(Fault::EndsOutput)
 }
 
 // No `Option<Job>`: its `None` would not say that help is asked for.
@@ -206,6 +220,7 @@ pub(crate) fn parse(heap: Global, args: Args) -> Result<Request, Fault> {
         files: Vec::new(heap),
         form: None,
         output: Output::Answer(Answer::Places),
+        merge: false,
         summary: false,
         ends: false,
         check: None,
@@ -216,6 +231,7 @@ pub(crate) fn parse(heap: Global, args: Args) -> Result<Request, Fault> {
     while let Some(arg) = args.next() {
         match arg.as_str() {
             "--help" => return Ok(Request::Help),
+            "--merge" => options.merge = true,
             "--summary" => options.summary = true,
             "--ends" => options.ends = true,
             "--output" => {

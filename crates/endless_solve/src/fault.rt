@@ -93,7 +93,7 @@ impl fmt::Display for Fault {
                 "--check and --reach are of games without ends; leave out --ends",
             ),
             Fault::EndsOutput => f.write_str(
-                "with --ends the output is places, answer or words, and there is no --summary",
+                "with --ends the output is places, answer or words, with neither --merge nor --summary",
             ),
             Fault::OneGame => f.write_str("--check looks at an answer to one game; name one FILE"),
             Fault::NoPlace { file, place } => write!(

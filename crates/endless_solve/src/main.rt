@@ -6,6 +6,7 @@ mod args;
 mod check;
 mod fault;
 mod input;
+mod merged;
 mod names;
 mod reach;
 mod report;

@@ -1,6 +1,7 @@
 //! A game or its answer is printed.
 use crate::args::{Answer, EndsOutput, Game, Output};
 use crate::fault::Fault;
+use crate::merged::smaller;
 use crate::{input, report, solution, summary};
 use dot::Picture;
 use drawing::Sheet;
@@ -17,24 +18,32 @@ pub(crate) fn show(
     file: &str,
     source: Source,
     output: Output,
+    merge: bool,
     summary: bool,
 ) -> Result<(), Fault> {
-    let Source { words, labels } = source;
     let heap = rt.alloc();
     let name = input::shown(file);
-    let words = words.as_slice();
     match output {
         Output::Game(form) => {
+            let source = if merge {
+                smaller(heap, source)?
+            } else {
+                source
+            };
+            let Source { words, labels } = source;
+            let words = words.as_slice();
             let game = GameWords::read(words).ok_or(Fault::Unsolved)?;
             let mut starts = vec![in heap; [0, 0]; game.len() as usize]?;
             let places = Places::new(game, starts.as_mut_slice());
             show_game(rt, name, form, words, &places, labels)?;
             if summary {
-                summary::tell(rt, name, words, &solution::solve(rt, words)?)?;
+                summary::tell(rt, name, words, &solution::solve(rt, words, merge)?)?;
             }
         }
         Output::Answer(form) => {
-            let solved = solution::solve(rt, words)?;
+            let Source { words, labels } = source;
+            let words = words.as_slice();
+            let solved = solution::solve(rt, words, merge)?;
             let game = GameWords::read(words).ok_or(Fault::Unsolved)?;
             let mut starts = vec![in heap; [0, 0]; game.len() as usize]?;
             let places = Places::new(game, starts.as_mut_slice());

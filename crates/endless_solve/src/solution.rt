@@ -2,6 +2,7 @@
 use crate::fault::Fault;
 use endless::solve as solve_words;
 use ends::solve_with_ends as solve_words_with_ends;
+use quotient::solve_merged;
 use std::alloc::AllocError;
 use std::time::{Duration, Instant};
 
@@ -12,17 +13,23 @@ pub(crate) struct Solved {
     pub(crate) took: Duration,
 }
 
-/// Who wins each place, and with which move: two words for each place. The
-/// words that the solver is lent are gone again when it is done.
+/// Who wins each place, and with which move: two words for each place; through
+/// the smaller game in which places that are alike are one, where `merge` asks
+/// for it. The words that the solver is lent are gone again when it is done.
 // Not `playing::board::solve_in`: what that promises is of no use here, where
 // the answer is only printed, and the program would need a crate that plays.
-pub(crate) fn solve(rt: &HostRuntime, words: &[u32]) -> Result<Solved, Fault> {
+pub(crate) fn solve(rt: &HostRuntime, words: &[u32], merge: bool) -> Result<Solved, Fault> {
     let heap = rt.alloc();
     let places = words.first().copied().unwrap_or(0) as usize;
     let mut answer = vec![in heap; 0; places.saturating_mul(2)]?;
-    let mut work = vec![in heap; 0; words.len().saturating_mul(4).saturating_add(65536)]?;
+    let each = if merge { 6 } else { 4 };
+    let mut work = vec![in heap; 0; words.len().saturating_mul(each).saturating_add(65536)]?;
     let start = Instant::now(rt)?;
-    solve_words(words, answer.as_mut_slice(), work.as_mut_slice())?;
+    if merge {
+        solve_merged(words, answer.as_mut_slice(), work.as_mut_slice())?;
+    } else {
+        solve_words(words, answer.as_mut_slice(), work.as_mut_slice())?;
+    }
     let took = start.elapsed(rt)?;
     Ok(Solved { answer, took })
 }

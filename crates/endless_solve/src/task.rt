@@ -25,7 +25,11 @@ fn run(rt: &HostRuntime, file: &str, job: &Job) -> Result<(), Fault> {
         println!(rt; "# {file}")?;
     }
     match &job.task {
-        Task::Show { output, summary } => show::show(rt, file, source, *output, *summary),
+        Task::Show {
+            output,
+            merge,
+            summary,
+        } => show::show(rt, file, source, *output, *merge, *summary),
         Task::Reach { target, side } => reach::reach(rt, file, source, target.as_str(), *side),
         Task::ShowWithEnds(output) => show::show_with_ends(rt, source, *output),
         // Looked at above, for one file.
