@@ -16,7 +16,7 @@ use std::io::Write;
 /// they are found.
 pub(crate) fn find(heap: Global, words: &[u32]) -> Result<Vec<u32>, Fault> {
     let mut marks = vec![in heap; 0; words.len()]?;
-    let mut work = vec![in heap; 0; words.len().saturating_mul(8).saturating_add(65536)]?;
+    let mut work = vec![in heap; 0; words.len().saturating_mul(9).saturating_add(65536)]?;
     winning_moves(words, marks.as_mut_slice(), work.as_mut_slice())?;
     Ok(marks)
 }
