@@ -22,6 +22,8 @@ FILE each is told behind a line # FILE, up to the first that is refused.
   --output places    a line for each place: NAME SIDE MOVE, the side that wins
                      it and its move there, or - where the other side moves
                      (this is the default)
+  --output moves     NAME SIDE MOVE MOVE .., all the moves there that some plan
+                     makes which wins for that side from all its places
   --output answer    the answer as words: for each place a side and a place
   --output solution  the answer in PGSolver's form: ID WINNER MOVE;
   --output dot       the game and its answer as a picture for Graphviz
@@ -76,6 +78,8 @@ pub enum Answer {
 pub enum Output {
     Game(Game),
     Answer(Answer),
+    /// All moves that some winning plan makes.
+    Moves,
 }
 
 /// What can be printed of a game with ends.
@@ -94,7 +98,8 @@ impl EndsOutput {
             Output::Answer(Answer::Words) => Some(EndsOutput::Answer),
             Output::Game(Game::Words) => Some(EndsOutput::Words),
             Output::Answer(Answer::Solution | Answer::Dot)
-            | Output::Game(Game::Drawing | Game::Pg | Game::Summary) => None,
+            | Output::Game(Game::Drawing | Game::Pg | Game::Summary)
+            | Output::Moves => None,
         }
     }
 }
@@ -106,6 +111,7 @@ impl TryFrom<String> for Output {
     fn try_from(name: String) -> Result<Output, String> {
         match name.as_str() {
             "places" => Ok(Output::Answer(Answer::Places)),
+            "moves" => Ok(Output::Moves),
             "answer" => Ok(Output::Answer(Answer::Words)),
             "solution" => Ok(Output::Answer(Answer::Solution)),
             "dot" => Ok(Output::Answer(Answer::Dot)),
@@ -190,16 +196,20 @@ impl Options {
         let task = match (check, reach) {
             (Some(_), Some(_)) => return Err(Fault::TwoTasks),
             (Some(_), None) | (None, Some(_)) if ends => return Err(Fault::EndsTask),
+            (Some(_), None) | (None, Some(_)) if merge => return Err(Fault::MergeTask),
             (Some(answer), None) => Task::Check(answer),
             (None, Some(target)) => Task::Reach { target, side },
             (None, None) if ends && (merge || summary) => return Err(Fault::EndsOutput),
             (None, None) if ends => {
                 Task::ShowWithEnds(EndsOutput::of(output).ok_or(Fault::EndsOutput)?)
             }
-            (None, None) => Task::Show {
-                output,
-                merge,
-                summary,
+            (None, None) => match output {
+                Output::Moves if merge => return Err(Fault::MergeTask),
+                _ => Task::Show {
+                    output,
+                    merge,
+                    summary,
+                },
             },
         };
         Ok(Job { files, form, task })

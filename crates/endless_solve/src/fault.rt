@@ -6,7 +6,7 @@ use std::alloc::{AllocError, AllocFailed};
 use std::{fmt, io};
 
 /// The forms of output.
-const OUTPUTS: &str = "places, answer, solution, dot, words, drawing, pg or summary";
+const OUTPUTS: &str = "places, moves, answer, solution, dot, words, drawing, pg or summary";
 
 #[derive(Drop)]
 pub enum Fault {
@@ -32,6 +32,8 @@ pub enum Fault {
     TwoTasks,
     /// An answer is to be looked at, or moves to be counted, where plays may end.
     EndsTask,
+    /// What is to be told is not told through the smaller game.
+    MergeTask,
     /// Something is to be printed of a game with ends that is of games without.
     EndsOutput,
     /// An answer is to be looked at for more than one game.
@@ -91,6 +93,9 @@ impl fmt::Display for Fault {
             Fault::TwoTasks => f.write_str("--check and --reach are asked for one at a time"),
             Fault::EndsTask => f.write_str(
                 "--check and --reach are of games without ends; leave out --ends",
+            ),
+            Fault::MergeTask => f.write_str(
+                "--merge is of a game or its answer; leave it out with --check, --reach and --output moves",
             ),
             Fault::EndsOutput => f.write_str(
                 "with --ends the output is places, answer or words, with neither --merge nor --summary",

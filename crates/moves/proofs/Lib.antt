@@ -1,0 +1,9 @@
+mod Alone
+mod Trials
+mod Lists
+mod Leading
+mod Avoiding
+mod Marks
+mod Solving
+mod Tries
+mod Calls
