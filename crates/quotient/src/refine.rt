@@ -34,6 +34,7 @@ fn bucket(places: &Places, parts: &[u32], place: u32) -> usize
     ensures is { result ≡ bucket places.now parts.now place }
     ensures below { result < length places.now }
 {
+    // Any factors would do: these keep numbers below 16,384 apart well enough.
     let (greatest, least) = span(places.moves(place), parts);
     let part = parts[place as usize] as usize;
     let weight = places.weight(place) as usize;

@@ -17,9 +17,9 @@ use endless::{Refusal, bits, layout};
 /// often each is there. The places of the smaller game are numbered by the
 /// first place that became them, and each has its moves once, in ascending
 /// order. `to` takes one word for each place, and `smaller` as many as the
-/// words of the game. `work` is lent, as many words as `solve` takes, and holds
-/// anything before and after. Where the call is refused, `to` and `smaller` are
-/// as they were.
+/// words of the game. `work` is lent, 65,536 words and 4 for each word of the
+/// game as with `solve`, and holds anything before and after. Where the call is
+/// refused, `to` and `smaller` are as they were.
 pub fn merge(
     words: &[u32],
     to: &mut [u32],
