@@ -1,0 +1,7 @@
+mod Alone
+mod Trials
+mod Lists
+mod Marks
+mod Solving
+mod Tries
+mod Calls

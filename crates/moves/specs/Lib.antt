@@ -1,0 +1,5 @@
+-- Winning moves: the definitions that the contracts cite.
+pub mod Alone
+pub mod Moves
+pub mod Marking
+pub mod Tries
