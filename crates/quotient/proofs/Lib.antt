@@ -1,0 +1,16 @@
+mod Tests
+mod Carrying
+mod Gathers
+mod Within
+mod Sames
+mod Chains
+mod Zeros
+mod Groups
+mod Rounds
+mod Ranks
+mod Members
+mod Putting
+mod Writing
+mod Merging
+mod Calls
+mod Answered

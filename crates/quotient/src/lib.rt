@@ -1,0 +1,13 @@
+//! Alike places made one: the smaller game, and its answer carried back.
+#![tactic(auto)]
+
+mod alike;
+mod gather;
+pub mod merged;
+mod number;
+mod refine;
+pub mod smaller;
+mod write;
+
+pub use merged::solve_merged;
+pub use smaller::merge;
