@@ -20,6 +20,8 @@ FILE each is told behind a line # FILE, up to the first that is refused.
   --output places    a line for each place: NAME SIDE MOVE, the side that wins
                      it and its move there, or - where the other side moves
                      (this is the default)
+  --output moves     NAME SIDE MOVE MOVE .., all the moves there that some plan
+                     makes which wins for that side from all its places
   --output answer    the answer as words: for each place a side and a place
   --output solution  the answer in PGSolver's form: ID WINNER MOVE;
   --output dot       the game and its answer as a picture for Graphviz
@@ -67,6 +69,8 @@ pub enum Answer {
 pub enum Output {
     Game(Game),
     Answer(Answer),
+    /// All moves that some winning plan makes.
+    Moves,
 }
 
 /// A form of output by its name; a name that is none comes back.
@@ -76,6 +80,7 @@ impl TryFrom<String> for Output {
     fn try_from(name: String) -> Result<Output, String> {
         match name.as_str() {
             "places" => Ok(Output::Answer(Answer::Places)),
+            "moves" => Ok(Output::Moves),
             "answer" => Ok(Output::Answer(Answer::Words)),
             "solution" => Ok(Output::Answer(Answer::Solution)),
             "dot" => Ok(Output::Answer(Answer::Dot)),

@@ -6,7 +6,7 @@ use std::alloc::{AllocError, AllocFailed};
 use std::{fmt, io};
 
 /// The forms of output.
-const OUTPUTS: &str = "places, answer, solution, dot, words, drawing, pg or summary";
+const OUTPUTS: &str = "places, moves, answer, solution, dot, words, drawing, pg or summary";
 
 #[derive(Drop)]
 pub enum Fault {

@@ -1,6 +1,7 @@
 //! Reads a game, and tells who wins each place and by which move.
 #![tactic(auto)]
 
+mod all_moves;
 mod answer;
 mod args;
 mod check;

@@ -1,7 +1,7 @@
 //! A game or its answer is printed.
 use crate::args::{Answer, Game, Output};
 use crate::fault::Fault;
-use crate::{input, report, solution, summary};
+use crate::{all_moves, input, report, solution, summary};
 use dot::Picture;
 use drawing::Sheet;
 use endless::graph::Places;
@@ -41,6 +41,16 @@ pub(crate) fn show(
             show_answer(rt, form, &places, labels, solved.answer.as_slice())?;
             if summary {
                 summary::tell(rt, name, words, &solved)?;
+            }
+        }
+        Output::Moves => {
+            let marks = all_moves::find(heap, words)?;
+            let game = GameWords::read(words).ok_or(Fault::Unsolved)?;
+            let mut starts = vec![in heap; [0, 0]; game.len() as usize]?;
+            let places = Places::new(game, starts.as_mut_slice());
+            show_moves(rt, &places, labels, marks.as_slice())?;
+            if summary {
+                summary::tell(rt, name, words, &solution::solve(rt, words)?)?;
             }
         }
     }
@@ -123,6 +133,21 @@ fn show_answer<'a>(
             write!(out, "{solution}")?;
         }
     }
+    out.flush()?;
+    Ok(())
+}
+
+/// All moves that some winning plan makes.
+fn show_moves<'a>(
+    rt: &HostRuntime,
+    places: &'a Places<'a>,
+    labels: Labels,
+    marks: &[u32],
+) -> Result<(), Fault> {
+    let heap = rt.alloc();
+    let names = labels.into_names(heap)?;
+    let mut out = BufWriter::new(heap, rt.stdout())?;
+    all_moves::lines(&mut out, names.as_slice(), places, marks)?;
     out.flush()?;
     Ok(())
 }

@@ -1,6 +1,8 @@
 mod Alone
 mod Trials
 mod Lists
+mod Leading
+mod Avoiding
 mod Marks
 mod Solving
 mod Tries

@@ -1,14 +1,14 @@
 -- The moves of a game in the order of its words: which place has each, where it leads, and where it stands.
-use Rattle.std.proofs.Common.{◌≡◌, ℕ, zero, suc, ◌+◌, ◌-◌, ◌*◌, ◌<◌, ◌≤◌, ◌⊎◌, List, [], ◌∷◌, ◌++◌, length, get_or, take, drop, replicate, sym, refl, ap, ◌∙◌, subst, inl, inr, add-zero, arith}
-use Rattle.std.proofs.lemmas.List.{take_all, append_assoc, append-nil, length-append, length-replicate, get_or-append-add, get_or_append_left, get_or-append_right, get_or-replicate}
+use Rattle.std.proofs.Common.{◌≡◌, ℕ, zero, suc, ◌+◌, ◌-◌, ◌*◌, ◌<◌, ◌≤◌, T, ◌⊎◌, List, [], ◌∷◌, ◌++◌, length, get_or, take, drop, replicate, sym, refl, ap, ◌∙◌, subst, inl, inr, add-zero, arith}
+use Rattle.std.proofs.lemmas.List.{take_all, append_assoc, append-nil, length-append, length-replicate, get_or-append-add, get_or_append_left, get_or-append_right, get_or-replicate, drop-drop}
 use Rattle.std.proofs.lemmas.Slice.{take-put_mid}
 use borrow.Rule.Slice.PartMut.{put_mid}
 use Rattle.std.proofs.lemmas.Bool.{cases_lt}
-use Rattle.endless.specs.Games.{Place, Game, row, Among, May}
+use Rattle.endless.specs.Games.{Place, Game, Reads, ok_ps, row, Among, May}
 use Rattle.endless.specs.Graph.{edges, moves}
 use Rattle.endless.specs.View.{words_of}
 use Rattle.endless.proofs.Among.{at_among}
-use Rattle.endless.proofs.Places.{from_place}
+use Rattle.endless.proofs.Places.{from_place, ok_parts, ok_size}
 use Rattle.moves.specs.Alone.{alone}
 use Rattle.moves.specs.Moves.{origins, targets, origin, target}
 use Rattle.moves.specs.Marking.{before}
@@ -40,6 +40,14 @@ before_most (p ∷ ps) (suc n) = omega (arith, before_most ps n)
 
 pub before_all : (g : Game) → before g (length g) ≡ edges g
 before_all g = ap edges (take_all (length g) g (omega arith))
+
+-- each place has a move
+edges_ok : (k : ℕ) (ps : List Place) → T (ok_ps k ps) → length ps ≤ edges ps
+edges_ok k [] t = omega arith
+edges_ok k (p ∷ ps) t = let f = ok_parts k p ps t in omega (arith, f.0.moving, edges_ok k ps f.1)
+
+pub edges_many : {s : List ℕ} {g : Game} → Reads s g → length g ≤ edges g
+edges_many {s} {g} r = edges_ok (length g) g (ok_size s g r).2
 
 -- ---- which
 
@@ -215,3 +223,9 @@ next_most g n first h e = omega (arith, before_more g n h, before_most g (n + 1)
 -- what is written behind the front of a list
 pub put_next : (a k : ℕ) (xs ys : List ℕ) {zs : List ℕ} {c : ℕ} → ys ≡ zs → length zs ≡ c → a ≤ length xs → take (a + c) (put_mid a k xs ys) ≡ take a xs ++ zs
 put_next a k xs ys {zs} {c} e l h = take-put_mid a k xs ys (a + c) (omega (arith, ap length e)) h ∙ ap (λ (l : List ℕ). take a xs ++ l) e
+
+-- the middle of a list filled with one number
+pub fill_mid : (a c v : ℕ) (xs ys : List ℕ) → ys ≡ replicate c v → put_mid a (a + c - a) xs ys ≡ take a xs ++ (replicate c v ++ drop (a + c) xs)
+fill_mid a c v xs ys e =
+    let z : a + c - a ≡ c = omega arith in
+    ap (λ (k : ℕ). put_mid a k xs ys) z ∙ ap (λ (l : List ℕ). take a xs ++ (l ++ drop c (drop a xs))) e ∙ ap (λ (l : List ℕ). take a xs ++ (replicate c v ++ l)) (drop-drop c a xs)

@@ -119,6 +119,37 @@ module _ {g : Game} {sides : ℕ → ℕ} {first : List ℕ} {k : ℕ} {o : List
       complete j h (inl e) x = ap (λ (i : ℕ). mark g o i) e ∙ this (subst (λ (i : ℕ). WinningMove g sides (origin g i) (target g i)) e x)
       complete j h (inr d) x = m.complete j (omega arith) x
 
+  -- one more is marked, a winning move
+  pub marking_set : k < edges g → length g + k < length o → WinningMove g sides (origin g k) (target g k) → {q : List ℕ} → q ≡ set o (length g + k) 1 → Marking g sides first (k + 1) q
+  marking_set inside room-for x {q} e = subst (Marking g sides first (k + 1)) (sym e) (record {
+    winners = λ n h. get_or-set_other o (length g + k) n 1 0 (λ d. omega arith) ∙ m.winners n h;
+    zero_or_one = λ j h. below j h (cases_eq j k);
+    sound = λ j h. sound j h (cases_eq j k);
+    complete = λ j h. complete j h (cases_eq j k);
+    behind = λ i h. get_or-set_other o (length g + k) i 1 0 (λ d. omega arith) ∙ m.behind i h;
+  })
+    where
+      p : List ℕ
+      p = set o (length g + k) 1
+
+      now : (j : ℕ) → j ≡ k → mark g p j ≡ 1
+      now j d = ap (mark g p) d ∙ get_or-set_same o (length g + k) 1 0 room-for
+
+      same : (j : ℕ) → (j ≡ k → ⊥) → mark g p j ≡ mark g o j
+      same j d = get_or-set_other o (length g + k) (length g + j) 1 0 (λ z. d (omega arith))
+
+      below : (j : ℕ) → j < edges g → (j ≡ k) ⊎ (j ≡ k → ⊥) → mark g p j < 2
+      below j h (inl d) = omega (arith, now j d)
+      below j h (inr d) = omega (arith, same j d, m.zero_or_one j h)
+
+      sound : (j : ℕ) → j < edges g → (j ≡ k) ⊎ (j ≡ k → ⊥) → mark g p j ≡ 1 → WinningMove g sides (origin g j) (target g j)
+      sound j h (inl d) z = subst (λ (i : ℕ). WinningMove g sides (origin g i) (target g i)) (sym d) x
+      sound j h (inr d) z = m.sound j h (sym (same j d) ∙ z)
+
+      complete : (j : ℕ) → j < k + 1 → (j ≡ k) ⊎ (j ≡ k → ⊥) → WinningMove g sides (origin g j) (target g j) → mark g p j ≡ 1
+      complete j h (inl d) y = now j d
+      complete j h (inr d) y = same j d ∙ m.complete j (omega arith) y
+
 -- a mark that a plan makes
 pub noted_makes : {g : Game} {sides : ℕ → ℕ} {w : ℕ} {plan : ℕ → ℕ} {o p : List ℕ} {k : ℕ} → k < edges g → Noted g sides w plan (edges g) o p → Makes g sides w plan (origin g k) (target g k) → mark g p k ≡ 1
 noted_makes {g} {sides} {w} {plan} {o} {p} {k} h n x = go (n.set k h)

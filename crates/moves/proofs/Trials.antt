@@ -41,7 +41,7 @@ wins_same g h v f same (k, x, e) = (
 )
 
 -- a play is won as from any moment on
-wins_from : (g : Game) (v : ℕ) (f : Play) (i : ℕ) → Wins g v f → Wins g v (λ j. f (i + j))
+pub wins_from : (g : Game) (v : ℕ) (f : Play) (i : ℕ) → Wins g v f → Wins g v (λ j. f (i + j))
 wins_from g v f i (k, x, e) = (
   k,
   record {

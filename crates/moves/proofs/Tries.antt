@@ -9,12 +9,14 @@ use Rattle.endless.proofs.Places.{to_place}
 use Rattle.moves.specs.Alone.{alone}
 use Rattle.moves.specs.Moves.{origin, target, Given, WinningMove}
 use Rattle.moves.specs.Marking.{before, Makes, Noted, Marking}
+use Rattle.moves.specs.Led.{led, Avoids}
 use Rattle.moves.specs.Tries.{Going, Same, TriesPlace, TriesAll}
 use Rattle.moves.specs.declared.solved.Solved.{Solved}
 use Rattle.moves.specs.declared.trying.Trying.{Trying}
 use Rattle.moves.proofs.Alone.{reads_alone}
 use Rattle.moves.proofs.Lists.{before_more, before_most, before_all, origin_at, step_may, words_alone}
 use Rattle.moves.proofs.Trials.{makes_none, makes_one, makes_within}
+use Rattle.moves.proofs.Avoiding.{avoids_winning}
 use Rattle.moves.proofs.Marks.{noted_makes, marking_plan, marking_more}
 
 -- ---- one move of a place
@@ -43,6 +45,11 @@ module _ {s : List ℕ} {g : Game} (reads : Reads s g) {n first k : ℕ} (place 
     there : (a : List ℕ) → WinningMove g (side a) (origin g k) (target g k) → WinningMove g (side a) n m
     there a x = subst (WinningMove g (side a) n) (sym to_is) (subst (λ (i : ℕ). WinningMove g (side a) i (target g k)) step_origin x)
 
+    -- where no play by the answer's plan comes from there to the place again
+    pub step_avoids : {a : List ℕ} → IsAnswer g a → {w : ℕ} → side a n ≡ w → whose g n ≡ w → side a m ≡ side a n → Avoids (led g a (length g)) m n → WinningMove g (side a) (origin g k) (target g k)
+    step_avoids {a} answer {w} won turn stays avoids =
+        subst (WinningMove g (side a) (origin g k)) to_is (subst (λ (i : ℕ). WinningMove g (side a) i m) (sym step_origin) (avoids_winning reads answer n m step_move (turn ∙ sym won) stays avoids))
+
     -- where its side is not to move, or the move leaves its places
     pub step_leaves : (a : List ℕ) → (whose g n ≡ side a n → side a m ≡ side a n → ⊥) → WinningMove g (side a) (origin g k) (target g k) → ⊥
     step_leaves a d x = let y = there a x in d y.turn (makes_within place y)
@@ -63,10 +70,10 @@ module _ {s : List ℕ} {g : Game} (reads : Reads s g) {n first k : ℕ} (place 
 -- ---- one after the other
 
 pub same_now : (a : Trying) → Same a a
-same_now a = record { solved = refl; out = refl; made = refl; tried = refl; work = refl }
+same_now a = record { solved = refl; led = refl; out = refl; part = refl; queue = refl; made = refl; tried = refl; work = refl }
 
 pub same_then : {a b c : Trying} → Same a b → Same b c → Same a c
-same_then same then = record { solved = then.solved ∙ same.solved; out = then.out ∙ same.out; made = then.made ∙ same.made; tried = then.tried ∙ same.tried; work = then.work ∙ same.work }
+same_then same then = record { solved = then.solved ∙ same.solved; led = then.led ∙ same.led; out = then.out ∙ same.out; part = then.part ∙ same.part; queue = then.queue ∙ same.queue; made = then.made ∙ same.made; tried = then.tried ∙ same.tried; work = then.work ∙ same.work }
 
 -- from k moves seen to on up to j
 pub record Tried (a : Trying) (k j : ℕ) (b : Trying) : Type 0 where

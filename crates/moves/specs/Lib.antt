@@ -2,4 +2,5 @@
 pub mod Alone
 pub mod Moves
 pub mod Marking
+pub mod Led
 pub mod Tries

@@ -2,7 +2,10 @@
 use Rattle.std.specs.Prelude.{◌≡◌, ℕ, ◌+◌, ◌*◌, ◌<◌, ◌≤◌, ◌⊎◌, List, length, take, Some, None, Option, slice_index}
 use Rattle.endless.specs.Games.{Game, whose}
 use Rattle.endless.specs.Graph.{edges}
+use Rattle.endless.specs.Says.{side}
 use Rattle.endless.specs.View.{words_of}
+use Rattle.endless.specs.Layout.{width}
+use Rattle.endless.specs.Checked.{IsAnswer}
 use Rattle.endless.specs.Sides.{number}
 use Rattle.endless.specs.declared.answer.Winner.{Winner}
 use Rattle.moves.specs.Moves.{origin, target, WinningMove, winner, mark, room}
@@ -41,14 +44,24 @@ pub record Begun (g : Game) (sides : ℕ → ℕ) (first o : List ℕ) : Type 0 
   pub none : (j : ℕ) → j < edges g → mark g o j ≡ 0
   pub behind : (i : ℕ) → room g ≤ i → slice_index o i ≡ slice_index first i
 
--- there is room for the winners and marks, for the words of a game as long, for an answer to it, and for the solver
-pub record Roomy (g : Game) (out made tried work : List ℕ) : Type 0 where
+-- there is room for the winners and marks, for a part of the places and a queue of them, for the words of a game as long, for an answer to it, and for the solver
+pub record Roomy (g : Game) (all out part queue made tried work : List ℕ) : Type 0 where
   pub marks : room g ≤ length out
+  pub parts : length part ≡ length all
+  pub queues : length g ≤ length queue
   pub words : length made ≡ length (words_of g)
   pub answers : 2 * length g ≤ length tried
   pub lent : 65536 + 4 * length (words_of g) ≤ length work
 
 -- the side that wins both ends of a move and is to move at the first, or that no side does
 abbrev pub StaysIs : Game → (ℕ → ℕ) → ℕ → ℕ → Option Winner → Type 0
-StaysIs g sides n m (Some w) = (sides n ≡ number w.0) × (whose g n ≡ number w.0)
+StaysIs g sides n m (Some w) = (sides n ≡ number w.0) × (whose g n ≡ number w.0) × (sides m ≡ sides n)
 StaysIs g sides n m None = whose g n ≡ sides n → sides m ≡ sides n → ⊥
+
+-- how many words are lent to try moves: for the words of the game that the answer leads and where its places start, for two sets, a queue, the words of a game and an answer to it, and for the solver
+abbrev pub lent_for_tries : Game → ℕ
+lent_for_tries g = 65536 + 6 * length (words_of g) + 5 * length g + 2 * width (length g)
+
+-- all moves are seen to, where an answer to the game is known
+abbrev pub TriedAll : Game → List ℕ → List ℕ → List ℕ → Type 0
+TriedAll g a o o' = (first : List ℕ) → IsAnswer g a → Marking g (side a) first 0 o → Marking g (side a) first (edges g) o'

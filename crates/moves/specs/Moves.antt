@@ -49,9 +49,9 @@ pub record Marked (g : Game) (o : List ℕ) : Type 0 where
   pub zero_or_one : (k : ℕ) → k < edges g → mark g o k < 2
   pub exactly : (k : ℕ) → k < edges g → ((mark g o k ≡ 1) ↔ WinningMove g (winner o) (origin g k) (target g k))
 
--- how many words have to be lent: 65,536, and 8 for each word of the game
+-- how many words have to be lent: 65,536, and 9 for each word of the game
 abbrev pub lent_for_moves : List ℕ → ℕ
-lent_for_moves s = 65536 + 8 * length s
+lent_for_moves s = 65536 + 9 * length s
 
 -- `winning_moves`: what each answer says
 abbrev pub MovesSay : List ℕ → List ℕ → List ℕ → Result (Unit {0}) Refusal → Type 0

@@ -13,7 +13,10 @@ Going t first k = IsAnswer t.solved.places.now t.solved.answer.now × Marking t.
 -- the solved game stays, and what the work is written to
 pub record Same (a b : Trying) : Type 0 where
   pub solved : b.solved ≡ a.solved
+  pub led : b.led ≡ a.led
   pub out : b.out.ghost_name ≡ a.out.ghost_name
+  pub part : b.part.ghost_name ≡ a.part.ghost_name
+  pub queue : b.queue.ghost_name ≡ a.queue.ghost_name
   pub made : b.made.ghost_name ≡ a.made.ghost_name
   pub tried : b.tried.ghost_name ≡ a.tried.ghost_name
   pub work : b.work.ghost_name ≡ a.work.ghost_name

@@ -7,6 +7,7 @@ ghost use Rattle.endless.specs.Sides.{number};
 ghost use Rattle.endless.specs.View.{words_of};
 ghost use Rattle.endless.specs.Checked.{IsAnswer};
 ghost use Rattle.moves.specs.Moves.{origins, targets, origin, target, winner, room};
+ghost use Rattle.moves.specs.Led.{leads};
 ghost use Rattle.moves.specs.Marking.{Makes, Noted, StaysIs};
 
 use endless::answer::{PlaceId, Winner, won_by};
@@ -68,6 +69,17 @@ impl Solved<'_> {
             return false;
         }
         self.places.is_own(side, from) && plan[2 * from as usize + 1] == self.to[k]
+    }
+
+    /// Whether the side that wins `place` is to move there.
+    pub fn leads(&self, place: u32) -> bool
+        requires { place < length self.now.places.now }
+        ensures { result ≡ leads self.now.places.now self.now.answer.now place }
+    {
+        let Some(winner) = won_by(self.answer, PlaceId(place)) else {
+            return false;
+        };
+        self.places.is_own(winner.0, place)
     }
 
     /// The side that wins `place` and is to move there, where it wins the place

@@ -1,12 +1,17 @@
 //! Moves that are tried: each in the game in which its place has it alone.
-ghost use Rattle.std.specs.Prelude.{◌≡◌, ℕ, ◌+◌, ◌<◌, ◌≤◌, List, ◌++◌, length, take, drop, replicate};
-ghost use Rattle.endless.specs.Says.{side as won-by};
-ghost use Rattle.endless.specs.Graph.{edges, moves};
+ghost use Rattle.std.specs.Prelude.{◌≡◌, ◌+◌, ◌<◌, ◌≤◌, ◌++◌, length, take, drop, replicate};
+ghost use Rattle.endless.specs.Graph.{moves};
 ghost use Rattle.endless.specs.Checked.{IsAnswer};
-ghost use Rattle.moves.specs.Marking.{before, Marking, Roomy};
+ghost use Rattle.moves.specs.Moves.{room};
+ghost use Rattle.moves.specs.Led.{led as led-game};
+ghost use Rattle.moves.specs.Marking.{before, lent_for_tries, TriedAll, Roomy};
 
+use crate::led::{Led, lead};
 use crate::solved::{Solved, answer_to};
 use endless::answer::{PlaceId, won_by};
+use endless::bits;
+use endless::graph::Places;
+use endless::words::GameWords;
 
 /// Makes the words of the game in which a place has the move to `to` alone:
 /// its moves stand from the word at `at` on.
@@ -25,11 +30,15 @@ fn leave_one(words: &[u32], at: usize, count: usize, to: u32, made: &mut [u32])
 #[derive(Drop)]
 struct Trying<'g, 'r> {
     solved: Solved<'g>,
+    led: Led<'g>,
     out: &'r mut [u32],
+    part: &'r mut [u32],
+    queue: &'r mut [u32],
     made: &'r mut [u32],
     tried: &'r mut [u32],
     work: &'r mut [u32],
-    ghost roomy: { Roomy solved.places.now out.now made.now tried.now work.now },
+    ghost led_is: { led.places.now ≡ led-game solved.places.now solved.answer.now (length solved.places.now) },
+    ghost roomy: { Roomy solved.places.now led.all.now out.now part.now queue.now made.now tried.now work.now },
 }
 
 impl Trying<'_, '_> {
@@ -54,6 +63,13 @@ impl Trying<'_, '_> {
         let Some(winner) = solved.stays(place, to) else {
             return;
         };
+        let led = self.led;
+        let part = &mut *self.part;
+        let queue = &mut *self.queue;
+        if !led.comes_to(to, place, part, queue) {
+            self.out[places + k] = 1;
+            return;
+        }
         let at = 4 + 3 * place as usize + first;
         let count = solved.places.moves(place).len();
         let made = &mut *self.made;
@@ -94,24 +110,72 @@ impl Trying<'_, '_> {
     }
 }
 
-/// Tries all moves of a solved game that have no mark, where those that the
-/// answer's plans make have one.
-pub fn try_moves(
-    solved: Solved,
-    out: &mut [u32],
-    made: &mut [u32],
-    tried: &mut [u32],
-    work: &mut [u32],
-)
-    requires roomy { Roomy solved.places.now out.old made.old tried.old work.old }
-    ensures { (first : List ℕ) → IsAnswer solved.entry.places.now solved.entry.answer.now → Marking solved.entry.places.now (won-by solved.entry.answer.now) first 0 out.old → Marking solved.entry.places.now (won-by solved.entry.answer.now) first (edges solved.entry.places.now) out.new }
+/// Lent words in which moves are tried: for a part of the places and a queue of
+/// them, for the words of a game in which a move is alone, for an answer to it,
+/// and for the solver.
+#[derive(Drop)]
+struct Bench<'r> {
+    part: &'r mut [u32],
+    queue: &'r mut [u32],
+    made: &'r mut [u32],
+    tried: &'r mut [u32],
+    work: &'r mut [u32],
+}
+
+/// Tries all moves of a solved game that have no mark.
+fn try_led(solved: Solved, led: Led, out: &mut [u32], bench: Bench)
+    requires led { led.places.now ≡ led-game solved.places.now solved.answer.now (length solved.places.now) }
+    requires roomy { Roomy solved.places.now led.all.now out.old bench.part.now bench.queue.now bench.made.now bench.tried.now bench.work.now }
+    ensures { TriedAll solved.entry.places.now solved.entry.answer.now out.old out.new }
 {
+    let Bench {
+        part,
+        queue,
+        made,
+        tried,
+        work,
+    } = bench;
     let mut trying = Trying {
         solved,
+        led,
         out,
+        part,
+        queue,
         made,
         tried,
         work,
     };
     trying.try_all();
+}
+
+/// Tries all moves of a solved game that have no mark, in lent words.
+pub fn try_moves<'a>(solved: Solved<'a>, out: &mut [u32], work: &'a mut [u32])
+    requires answer { IsAnswer solved.places.now solved.answer.now }
+    requires marks { room solved.places.now ≤ length out.old }
+    requires lent { lent_for_tries solved.places.now ≤ length work.old }
+    ensures { TriedAll solved.entry.places.now solved.entry.answer.now out.old out.new }
+{
+    let places = solved.places.len() as usize;
+    let width = places.div_ceil(32);
+    let (words, work) = work.split_at_mut(solved.words.len());
+    let (starts, work) = work.split_at_mut(2 * places);
+    let (all, work) = work.split_at_mut(width);
+    let (part, work) = work.split_at_mut(width);
+    let (queue, work) = work.split_at_mut(places);
+    let (made, work) = work.split_at_mut(solved.words.len());
+    let (tried, work) = work.split_at_mut(2 * places);
+    lead(&solved, words);
+    bits::fill(all, solved.places.len());
+    let (starts, _) = starts.as_chunks_mut::<2>();
+    let game = GameWords::known(words);
+    let view = Places::new(game, starts);
+    let led = Led { places: &view, all };
+    let bench = Bench {
+        part,
+        queue,
+        made,
+        tried,
+        work,
+    };
+    try_led(solved, led, out, bench);
 }

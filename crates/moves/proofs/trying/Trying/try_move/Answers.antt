@@ -1,10 +1,12 @@
-use Rattle.std.proofs.Common.{rules, length, get_or, refl, ap, arith}
+use Rattle.std.proofs.Common.{rules, ℕ, ◌+◌, length, get_or, set, refl, ap, subst, arith}
 use Rattle.endless.specs.Games.{Game}
 use Rattle.moves.specs.Alone.{alone}
+use Rattle.moves.specs.Led.{Avoids}
 use Rattle.moves.proofs.Alone.{length_alone}
 use Rattle.moves.proofs.Lists.{length_targets, within_words}
-use Rattle.moves.proofs.Marks.{marking_more}
-use Rattle.moves.proofs.Tries.{step_inside, step_to, step_made, step_leaves, step_fails, step_wins}
+use Rattle.moves.proofs.Avoiding.{led_long, the_other}
+use Rattle.moves.proofs.Marks.{marking_more, marking_set}
+use Rattle.moves.proofs.Tries.{step_inside, step_to, step_made, step_leaves, step_avoids, step_fails, step_wins}
 use Rattle.moves.proofs.trying.Trying.try_move.Goals as goal
 
 pub overflow_add-places : goal.overflow_add-places
@@ -30,6 +32,38 @@ returns-in_default-clause-tries c = λ first m.
     let s = c.args.self.now in
     let r = c.requires in
     (m.0, marking_more m.1 (λ x. absurd (step_leaves s.solved.reads r.place r.first r.low r.high (ap (λ l. get_or l c.args.k 0) s.solved.to_are) s.solved.answer.now c.in_default.ensures x)))
+
+pub comes_to-requires-clause-from : goal.comes_to-requires-clause-from
+comes_to-requires-clause-from c =
+    let s = c.args.self.now in
+    let r = c.requires in
+    omega (arith, step_to s.solved.reads r.place r.first r.low r.high (ap (λ l. get_or l c.args.k 0) s.solved.to_are), led_long s.solved.places.now s.solved.answer.now s.led_is)
+
+pub comes_to-requires-clause-to : goal.comes_to-requires-clause-to
+comes_to-requires-clause-to c = let s = c.args.self.now in omega (arith, c.requires.place, led_long s.solved.places.now s.solved.answer.now s.led_is)
+
+pub comes_to-requires-clause-queue : goal.comes_to-requires-clause-queue
+comes_to-requires-clause-queue c = let s = c.args.self.now in omega (arith, s.roomy.queues, led_long s.solved.places.now s.solved.answer.now s.led_is)
+
+pub overflow_add-self : goal.overflow_add-self
+overflow_add-self c = let s = c.args.self.now in let r = c.requires in omega (arith, step_inside s.solved.reads r.place r.first r.low r.high, s.roomy.marks, c.len-places.ensures.len)
+
+pub offset_bounds-self-places-then-not-comes_to : goal.offset_bounds-self-places-then-not-comes_to
+offset_bounds-self-places-then-not-comes_to c = let s = c.args.self.now in let r = c.requires in omega (arith, step_inside s.solved.reads r.place r.first r.low r.high, s.roomy.marks, c.len-places.ensures.len)
+
+pub bounds-self-places-then-not-comes_to : goal.bounds-self-places-then-not-comes_to
+bounds-self-places-then-not-comes_to c = let s = c.args.self.now in let r = c.requires in omega (arith, step_inside s.solved.reads r.place r.first r.low r.high, s.roomy.marks, c.len-places.ensures.len)
+
+pub returns-then-not-comes_to-clause-tries : goal.returns-then-not-comes_to-clause-tries
+returns-then-not-comes_to-clause-tries c = λ first m.
+    let s = c.args.self.now in
+    let r = c.requires in
+    let own = c.in-Some.ensures in
+    let avoids = subst (λ (h : Game). Avoids h (get_or s.solved.to.now c.args.k 0) c.args.place) s.led_is (the_other c.if-not-comes_to.ensures) in (
+      m.0,
+      marking_set m.1 (step_inside s.solved.reads r.place r.first r.low r.high) (omega (arith, step_inside s.solved.reads r.place r.first r.low r.high, s.roomy.marks))
+          (step_avoids s.solved.reads r.place r.first r.low r.high (ap (λ l. get_or l c.args.k 0) s.solved.to_are) m.0 own.0 own.1 own.2 avoids) (ap (λ (i : ℕ). set s.out.now (i + c.args.k) 1) c.len-places.ensures.len),
+    )
 
 pub overflow_add-at-2 : goal.overflow_add-at-2
 overflow_add-at-2 c =
