@@ -15,7 +15,7 @@ uint32_t endless_attract_to(const uint32_t *words, size_t words_len, uint32_t ta
    for each place that number, 2^32 - 1 where the side cannot, and a move; else as above. */
 uint32_t endless_distances_to(const uint32_t *words, size_t words_len, uint32_t target, uint32_t side, uint32_t *out, size_t out_len, uint32_t *work, size_t work_len);
 /* All moves that some winning plan makes: 0: done, for each place who wins it, and then for each move, in the order of
-   the words, 1 or 0; 3: work has fewer than 65536 + 8 * words_len words; else as endless_solve. */
+   the words, 1 or 0; 3: work has fewer than 65536 + 9 * words_len words; else as endless_solve. */
 uint32_t endless_winning_moves(const uint32_t *words, size_t words_len, uint32_t *out, size_t out_len, uint32_t *work, size_t work_len);
 /* The smaller game in which alike places are one: 0: done, for each place which place of it stands in to, its words in
    smaller, and how many these are in *len; 1: to has fewer words than there are places, or smaller than words_len; else
