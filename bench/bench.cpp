@@ -1,5 +1,6 @@
 // The verified library beside two C++ solvers, on games of every family. Prints a table.
-//   bench [PART [SIZE]]   only families with PART in their name, only games of about SIZE places
+//   bench [PART [SIZE]]   only families with PART in their name, only games of about SIZE places;
+//                         "winning moves" and "alike places" are parts too
 #include <sys/resource.h>
 #include <sys/wait.h>
 #include <unistd.h>
@@ -16,6 +17,8 @@
 #include "check.hpp"
 #include "endless.h"
 #include "families.hpp"
+#include "moves.hpp"
+#include "parts.hpp"
 #include "solvers.hpp"
 
 namespace {
@@ -227,12 +230,97 @@ void distances() {
   for (uint32_t n : {4096, 8192, 16384}) one_distance("a place with all moves", star(n), 1);
 }
 
+// All moves that some winning plan makes: the library, beside C++ by the same rule.
+void one_winning_moves(uint32_t n) {
+  const Words words = random_game(n, 3, 8, 1);
+  const size_t len = words.size(), moves = len - 1 - 3 * size_t(n);
+  std::vector<uint32_t> out[2], work(65536 + 9 * len, 0x5a5a5a5a);
+  for (auto &o : out) o.assign(n + moves, 0x5a5a5a5a);
+  Solver s;
+  s.reserve(n, moves);
+  const Solve by_cpp = [&](const Words &game, uint32_t *answer) { s.solve_closed(game.data(), game.size(), answer); };
+  const Solve by_library = [&](const Words &game, uint32_t *answer) { endless_solve(game.data(), game.size(), answer, 2 * n, work.data(), work.size()); };
+
+  const double start = now();
+  const uint32_t said = endless_winning_moves(words.data(), len, out[0].data(), out[0].size(), work.data(), work.size());
+  const double library = now() - start;
+  const Trials theirs = winning_moves(words, by_cpp, out[1].data());
+  const double cpp = now() - start - library;
+  std::string fault = said != 0 ? "refused" : out[0] != out[1] ? "the marks differ" : wrong_moves_in(words, by_cpp, out[0].data(), 200, n);
+  // with the library's own plans, so by the same games
+  const Trials ours = winning_moves(words, by_library, out[1].data());
+  if (out[0] != out[1]) fault = "the marks differ";
+  if (!fault.empty()) wrong++, std::printf("WRONG: winning moves, %u places: %s\n", n, fault.c_str());
+  const auto marked = std::count(out[0].begin() + n, out[0].end(), 1u);
+  std::printf("%6u %7zu %7ld %7u %7u %7u %7u %10.1f %7u %10.1f %6.2f\n", n, moves, long(marked), ours.first, ours.avoided, ours.later, ours.games, library, theirs.games, cpp, library / cpp);
+  std::fflush(stdout);
+}
+
+void all_winning_moves(uint32_t size) {
+  std::printf("\nAll moves that some winning plan makes, random games with 3 moves and 8 weights, one run each. Marked by the first plans, since no play comes back, by a\n"
+              "later plan; in how many games, with the library's plans and with those of C++\n"
+              "%6s %7s %7s %7s %7s %7s %7s %10s %7s %10s %6s\n", "places", "moves", "marked", "first", "avoided", "later", "games", "endless", "games", "C++", "ratio");
+  for (uint32_t n : {1024u, 4096u, 16384u})
+    if (size == 0 || n == size) one_winning_moves(n);
+}
+
+// Five samples, or one where a run takes more than a second.
+void some_samples(Timed &t) {
+  const double first = t.once();
+  if (first > 1000) return void(t.best = t.worst = first);
+  t.times = unsigned(std::clamp(10 / first, 1.0, 100.0));
+  for (int i = 0; i < 5; i++) t.sample();
+}
+
 // n - 1 places of weight 1 in a row, the last of which goes to a place of weight 0 that stays.
 Words chain_to_loop(uint32_t n) {
   Words words{n};
   for (uint32_t v = 0; v + 1 < n; v++) words.insert(words.end(), {v % 2, 1, 1, v + 1});
   words.insert(words.end(), {0, 0, 1, n - 1});
   return words;
+}
+
+// The smaller game in which alike places are one, and solving through it.
+void one_merge(const std::string &name, const Words &words) {
+  const uint32_t n = words[0];
+  const size_t len = words.size();
+  std::vector<uint32_t> to(n), out(2 * n), work(65536 + 6 * len);
+  Words smaller(len);
+  size_t count = 0;
+  uint32_t said[3] = {9, 9, 9};
+  Timed t[3];
+  enum { merges, solves, solves_merged };
+  for (auto &one : t) one.clear = [&] { for (auto *a : {&to, &out, &work, &smaller}) std::memset(a->data(), 0x5a, 4 * a->size()); };
+  t[merges].run = [&] { said[merges] = endless_merge(words.data(), len, to.data(), to.size(), smaller.data(), smaller.size(), &count, work.data(), work.size()); };
+  t[solves].run = [&] { said[solves] = endless_solve(words.data(), len, out.data(), out.size(), work.data(), work.size()); };
+  t[solves_merged].run = [&] { said[solves_merged] = endless_solve_merged(words.data(), len, out.data(), out.size(), work.data(), work.size()); };
+
+  some_samples(t[solves]);
+  some_samples(t[solves_merged]);
+  std::string fault = wrong_in(words.data(), len, out.data());
+  some_samples(t[merges]);
+  const double start = now();
+  const Parts right = parts(words);
+  const double cpp = now() - start;
+  smaller.resize(std::min(count, len));
+  if (smaller != smaller_game(words, right)) fault = "the smaller game is another";
+  if (to != right.of) fault = "the places became others";
+  if (said[merges] + said[solves] + said[solves_merged] != 0) fault = "refused";
+  if (!fault.empty()) wrong++, std::printf("WRONG: %s: %s\n", name.c_str(), fault.c_str());
+  std::printf("%-34s %6u %6u %6u %s %10.3f %s %s\n", name.c_str(), n, right.count, right.rounds, ms(t[merges]).c_str(), cpp, ms(t[solves]).c_str(), ms(t[solves_merged]).c_str());
+  std::fflush(stdout);
+}
+
+void alike_places() {
+  const uint32_t n = 16384;
+  std::printf("\nAlike places made one:\n%-34s %6s %6s %6s %14s %10s %14s %14s\n", "", "places", "after", "rounds", "merge    ", "C++ maps", "solve    ", "solve merged ");
+  one_merge("random, 3 moves, 8 weights", random_game(n, 3, 8, 1));
+  one_merge("copies of a game of 64 places", copies(random_game(64, 3, 8, 1), n / 64, 1));
+  for (const Family &f : families())
+    if (f.name.find("chain") == 0 || f.name.find("ladder") == 0) one_merge(f.name, f.game(n));
+  one_merge("weight 1 in a row, then a loop", chain_to_loop(n));
+  one_merge("same ends", same_ends(n, 1));
+  one_merge("same ends, parting at once", same_ends_at_once(n, 1));
 }
 
 // How long the library takes to look at an answer: as it was found, and with the last place given to the other side.
@@ -319,6 +407,9 @@ int main(int argc, char **argv) {
   tell(slowest.value, slowest, "ms at most, but for recursive ladders of more than 100 places");
   one_attractor();
   distances();
+  auto asked = [&](const char *what) { return std::string(what).find(part) != std::string::npos; };
+  if (asked("winning moves")) all_winning_moves(size);
+  if (asked("alike places")) alike_places();
   checks();
   std::printf("%d wrong answers\n", wrong);
   return wrong != 0;

@@ -8,5 +8,5 @@ flags=(-std=c++17 -O3 -march=native -Wall -Wextra)
 library=(crates/endless_c/out/libendless_c.a)
 
 compile() {
-  g++ "${flags[@]}" "bench/$1.cpp" bench/solvers.cpp bench/check.cpp bench/families.cpp "${library[@]}" -o "target/bench/$1"
+  g++ "${flags[@]}" "bench/$1.cpp" bench/solvers.cpp bench/check.cpp bench/families.cpp bench/moves.cpp bench/parts.cpp "${library[@]}" -o "target/bench/$1"
 }

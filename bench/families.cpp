@@ -160,6 +160,47 @@ Words one_move_each(uint32_t n, uint32_t weights, uint64_t seed) {
   return random_game(n, 1, weights, seed);
 }
 
+// So many copies of a game, each move led to the right place of some copy. Copies of a place are alike.
+Words copies(const Words &game, uint32_t times, uint64_t seed) {
+  Random r(seed);
+  const uint32_t n = game[0];
+  Made g;
+  for (uint32_t copy = 0; copy < times; copy++)
+    for (size_t at = 1; at < game.size(); at += 3 + game[at + 2]) {
+      Made::Place p{game[at], game[at + 1], {}};
+      for (uint32_t i = 0; i < game[at + 2]; i++) p.moves.push_back(r.below(times) * n + game[at + 3 + i]);
+      g.places.push_back(p);
+    }
+  return g.words();
+}
+
+// Sides and 8 weights at random; each place moves to the first, to the last and anywhere. So the first and the
+// last of the parts that a place moves into say next to nothing.
+Words same_ends(uint32_t n, uint64_t seed) {
+  Random r(seed);
+  Made g;
+  for (uint32_t v = 0; v < n; v++) g.places.push_back({r.below(2), r.below(8), {0, n - 1, r.below(n)}});
+  return g.words();
+}
+
+// The same ends; and all places but the first 512 and the last 512, of one side and weight, also move to two of
+// these, which differ by side and 256 weights. So nearly all of them part at once, in one round, and not before.
+Words same_ends_at_once(uint32_t n, uint64_t seed) {
+  Random r(seed);
+  Made g;
+  for (uint32_t v = 0; v < n; v++) {
+    Made::Place p{0, 0, {0, n - 1}};
+    if (v < 512 || v >= n - 512) p.whose = r.below(2), p.weight = r.below(256);
+    else
+      for (int i = 0; i < 2; i++) {
+        const uint32_t to = r.below(1024);
+        p.moves.push_back(to < 512 ? to : n - 1024 + to);
+      }
+    g.places.push_back(p);
+  }
+  return g.words();
+}
+
 std::vector<Family> families() {
   const std::vector<uint32_t> all{1024, 2048, 4096, 8192, 16384};
   std::vector<Family> list;

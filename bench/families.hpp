@@ -33,6 +33,9 @@ Words slow_measures(uint32_t n, uint32_t levels);
 Words chain(uint32_t n, uint32_t weights, bool forward, uint64_t seed);
 Words one_place_with_all_moves(uint32_t n, uint64_t seed);
 Words one_move_each(uint32_t n, uint32_t weights, uint64_t seed);
+Words copies(const Words &game, uint32_t times, uint64_t seed);
+Words same_ends(uint32_t n, uint64_t seed);
+Words same_ends_at_once(uint32_t n, uint64_t seed);
 
 struct Family {
   std::string name;

@@ -1,12 +1,15 @@
-// Are the C++ solvers and the checkers right? Tiny games against all plans of both sides, and numbers of
-// moves against those found layer by layer; then larger ones, where both solvers must find the same
-// winners and pass the checker.
+// Are the C++ solvers and the checkers right? Tiny games against all plans of both sides, numbers of moves
+// against those found layer by layer, and alike places against all pairs; then larger ones, where both
+// solvers must find the same winners and pass the checker.
 #include <cstdio>
+#include <set>
 #include <string>
 #include <vector>
 
 #include "check.hpp"
 #include "families.hpp"
+#include "moves.hpp"
+#include "parts.hpp"
 #include "solvers.hpp"
 
 namespace {
@@ -105,6 +108,54 @@ bool right(const Made &g, uint32_t side, const std::vector<uint32_t> &number, co
   return true;
 }
 
+// The winners, and for each move whether some plan makes it that wins all places which its side wins.
+std::vector<uint32_t> marks(const Made &g, const std::vector<uint32_t> &sides) {
+  const size_t n = g.places.size();
+  std::set<std::pair<uint32_t, uint32_t>> made;
+  Plan plan(n);
+  for (uint32_t side = 0; side < 2; side++)
+    plans(g, side, plan, 0, [&] {
+      bool wins = true;
+      plans(g, 1 - side, plan, 0, [&] {
+        for (uint32_t v = 0; v < n; v++)
+          if (sides[v] == side && winner(g, plan, v) != side) wins = false;
+      });
+      for (uint32_t v = 0; v < n; v++)
+        if (wins && sides[v] == side && g.places[v].whose == side) made.insert({v, plan[v]});
+    });
+  std::vector<uint32_t> out = sides;
+  for (uint32_t v = 0; v < n; v++)
+    for (uint32_t m : g.places[v].moves) out.push_back(uint32_t(made.count({v, m})));
+  return out;
+}
+
+// Each place's first alike place: two are apart by side or weight, or since one has a move to where no move of the other's leads to one alike.
+std::vector<uint32_t> first_alike(const Made &g) {
+  const size_t n = g.places.size();
+  std::vector<std::vector<bool>> apart(n, std::vector<bool>(n));
+  auto leads = [&](const Made::Place &p, const Made::Place &q) {  // each move of p's has one of q's to a place not apart
+    for (uint32_t m : p.moves) {
+      bool some = false;
+      for (uint32_t k : q.moves) some |= !apart[m][k];
+      if (!some) return false;
+    }
+    return true;
+  };
+  for (bool more = true; more;) {
+    more = false;
+    for (size_t u = 0; u < n; u++)
+      for (size_t v = 0; v < n; v++) {
+        const Made::Place &p = g.places[u], &q = g.places[v];
+        if (apart[u][v] || (p.whose == q.whose && p.weight == q.weight && leads(p, q) && leads(q, p))) continue;
+        apart[u][v] = more = true;
+      }
+  }
+  std::vector<uint32_t> first(n);
+  for (size_t v = 0; v < n; v++)
+    while (apart[v][first[v]]) first[v]++;
+  return first;
+}
+
 int wrong = 0;
 void expect(bool ok, const char *what, unsigned game) {
   if (ok) return;
@@ -161,8 +212,33 @@ int main() {
       expect(ok == right(g, side, number, other), "the checker of numbers is wrong", games);
       ok ? accepted++ : refused++;
     }
+    // all winning moves, and their checker
+    const auto marked = marks(g, sides);
+    const Solve by_closed = [&](const Words &game, uint32_t *answer) { solver.solve_closed(game.data(), game.size(), answer); };
+    std::vector<uint32_t> moves(marked.size(), 9);
+    winning_moves(words, by_closed, moves.data());
+    expect(moves == marked, "the winning moves are wrong", games);
+    for (uint32_t k = 0; k < 2; k++) {
+      auto other = marked;
+      if (k > 0) other[r.below(uint32_t(other.size()))] ^= 1;
+      const bool ok = wrong_moves_in(words, by_closed, other.data(), 100, games).empty();
+      expect(ok == (k == 0), "the checker of winning moves is wrong", games);
+      ok ? accepted++ : refused++;
+    }
+    // alike places, and the smaller game
+    const auto first = first_alike(g);
+    const Parts found = parts(words);
+    const Parts plain = parts_in_rounds(words);
+    bool same = plain.of == found.of && plain.rounds == found.rounds;
+    for (uint32_t v = 0; v < n; v++)
+      for (uint32_t u = 0; u <= v; u++) same &= (found.of[u] == found.of[v]) == (first[u] == first[v]);
+    expect(same, "the parts are wrong", games);
+    const Words smaller = smaller_game(words, found);
+    expect(parts(smaller).count == smaller[0], "the smaller game has alike places", games);
+    solver.solve_closed(smaller.data(), smaller.size(), out.data());
+    for (uint32_t v = 0; v < n; v++) expect(out[2 * found.of[v]] == sides[v], "the smaller game has other winners", games);
   }
-  std::printf("%u games of 1 to 7 places, %u places: both solvers against all plans, and numbers of moves layer by layer; the checkers on %u right and %u wrong answers more\n", games, places, accepted, refused);
+  std::printf("%u games of 1 to 7 places, %u places: both solvers and all winning moves against all plans, numbers of moves layer by layer, alike places by pairs; the checkers on %u right and %u wrong answers more\n", games, places, accepted, refused);
 
   games = places = 0;
   for (uint32_t i = 0; i < 2000; i++) {
@@ -178,9 +254,14 @@ int main() {
       expect(wrong_in(words.data(), words.size(), b.data()).empty(), "closed is wrong", i);
       for (uint32_t v = 0; v < n; v++) expect(a[2 * v] == b[2 * v], "the solvers differ", i);
     }
+    const Words more = copies(words, 1 + i % 4, i);
+    const Parts found = parts(more);
+    const Parts plain = parts_in_rounds(more);
+    expect(plain.of == found.of && plain.rounds == found.rounds, "the parts differ", i);
+    expect(found.count <= n, "copies are apart", i);
     games++;
     places += n;
   }
-  std::printf("%u games of 8 to 207 places, %u places: both solvers by the checker\n%d wrong\n", games, places, wrong);
+  std::printf("%u games of 8 to 207 places, %u places: both solvers by the checker; parts of one to four copies of these, found in both ways\n%d wrong\n", games, places, wrong);
   return wrong != 0;
 }
