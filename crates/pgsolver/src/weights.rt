@@ -8,6 +8,8 @@ ghost use Rattle.pgsolver.specs.Weights.{weights_by, Spreads, Fitted, Unfit, Sam
 
 use std::alloc::{AllocError, AllocFailed, Global};
 use std::collections::BTreeMap;
+use std::error::Error;
+use std::fmt;
 
 // A number of its own, as this crate reads texts and takes no more from `endless` than a `Side`.
 /// Weights are below this.
@@ -77,6 +79,20 @@ impl<T: Drop> From<AllocFailed<T>> for NoWeights {
         NoWeights::Memory
     }
 }
+
+impl fmt::Display for NoWeights {
+    fn fmt<W: fmt::Write>(&self, f: &mut fmt::Formatter<W>) -> fmt::Result {
+        match self {
+            NoWeights::TooMany(at) => write!(
+                f,
+                "too many priorities: the one at {at} gets no weight below 256"
+            ),
+            NoWeights::Memory => f.write_str("out of memory"),
+        }
+    }
+}
+
+impl Error for NoWeights {}
 
 /// Weights below 256 for priorities of any size, in the same order and odd where they are: each place is won by the same side with the same plans.
 #[tactic(auto, using(crate::proofs::SameWins::same_wins))]

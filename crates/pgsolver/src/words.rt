@@ -36,6 +36,7 @@ fn write_place(
     write_goals(places, &node.goals, n, words)
 }
 
+// Two lists, gone through together: the weights are what `compress` gives for priorities alone.
 /// The words of the whole game.
 pub(crate) fn write_words(
     heap: Global,

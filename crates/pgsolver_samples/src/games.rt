@@ -1,5 +1,5 @@
 //! Samples of games.
-use pgsolver::{Fault, Listing, MOST_BYTES, Refusal, read};
+use pgsolver::{Fault, Listing, MOST_BYTES, Refusal, compress, read};
 use std::alloc::Global;
 use std::test::Fail;
 
@@ -92,5 +92,26 @@ fn limits_hold(rt: HostRuntime) -> Result<(), Fail> {
     assert_eq!(rt; refusal(heap, text.as_slice())?, Refusal::NoNodes);
     let text = vec![in heap; b' '; MOST_BYTES + 1]?;
     assert_eq!(rt; refusal(heap, text.as_slice())?, Refusal::TooLong);
+    Ok(())
+}
+
+#[test]
+fn a_priority_that_gets_no_weight_is_told(rt: HostRuntime) -> Result<(), Fail> {
+    let heap = rt.alloc();
+    // All even: each takes a weight and leaves out the next.
+    let mut priorities = Vec::new(heap);
+    for n in 0..128u32 {
+        priorities.push(4 * n)?;
+    }
+    let weights = compress(heap, priorities.as_slice())?;
+    assert_eq!(rt; weights.as_slice().last(), Some(&254));
+    priorities.push(1000)?;
+    let Err(why) = compress(heap, priorities.as_slice()) else {
+        return Err(Fail::new("fitted"));
+    };
+    assert_eq!(rt;
+        why.to_string(heap)?.as_str(),
+        "too many priorities: the one at 128 gets no weight below 256"
+    );
     Ok(())
 }
