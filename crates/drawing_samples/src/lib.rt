@@ -41,19 +41,18 @@ mod tests {
         let heap = rt.alloc();
         let text = "day 0 3: day down\ndown 1 0: # the end\n";
         let d = read_as(heap, text, Kind::WithEnds)?;
-        assert_eq!(rt;
-            d.words.as_slice(),
-            [2, 0, 3, 2, 0, 1, 1, 0, 0].as_slice()
-        );
+        assert_eq!(rt; d.words.as_slice(), [2, 0, 3, 2, 0, 1, 1, 0, 0].as_slice());
         assert_eq!(rt;
             said(heap, text)?.as_str(),
             "line 2: the place has no moves; name at least one place after the colon"
         );
         match read_as(heap, "down 1 0", Kind::WithEnds) {
-            Err(Refusal::Fault {
-                line: 1,
-                fault: Fault::Form,
-            }) => Ok(()),
+            Err(
+                Refusal::Fault {
+                    line: 1,
+                    fault: Fault::Form,
+                },
+            ) => Ok(()),
             _ => Err(Fail::new("another answer")),
         }
     }
