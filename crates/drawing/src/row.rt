@@ -70,10 +70,9 @@ fn count_moves(moves: Tokens<'_>, kind: Kind) -> Result<usize, Fault>
     requires { length (left moves) < 2 ^ 63 }
     ensures { result ≡ lengths (some_names kind (names_of (left moves.entry))) }
 {
-    // A loop: tried with `try_fold`, where that the count fits and what is answered stay to be proved by hand, which the loop's invariant answers.
+    // A loop: tried with `try_fold`, where that the count fits and what is answered stay
+    // to be proved by hand, which the loop's invariant answers.
     let mut count = 0;
-    // A loop: `try_fold` would be the same `match` in a closure, which counts on by its
-    // answer, and a `?` behind it.
     for token in moves {
         match token? {
             Token::Word(_) => count += 1,
