@@ -13,6 +13,7 @@ use allplans::side::Side;
 use allplans::{checker, plans, reach};
 use endless::verdict::Rejection;
 use endless::{check, solve};
+use moves::winning_moves;
 use std::alloc::Global;
 use std::fmt;
 
@@ -34,6 +35,8 @@ pub enum Wrong {
     Attractor { target: u32, side: Side },
     /// All plans have another winner here.
     Winner(usize),
+    /// All plans say otherwise of the move with this index in the words.
+    Mark(usize),
     /// The checker says so.
     Checker(checker::Wrong),
 }
@@ -50,6 +53,7 @@ impl fmt::Display for Wrong {
                 write!(f, "another attractor of place {target} for side {side}")
             }
             Wrong::Winner(place) => write!(f, "all plans have another winner at place {place}"),
+            Wrong::Mark(index) => write!(f, "all plans say otherwise of move {index}"),
             Wrong::Checker(wrong) => write!(f, "{wrong}"),
         }
     }
@@ -154,10 +158,13 @@ pub fn by_all_plans(heap: Global, game: &Game, answer: &Answer) -> Result<Option
     ensures { IfOk result (λ wrong. IfNone wrong (RightAnswer game.now.places.items (winners answer.now.claims.items) (plan answer.now.claims.items))) }
 {
     let winners = plans::winners(heap, game)?;
-    match first_other(winners.as_slice(), answer.claims.as_slice()) {
-        Some(place) => Ok(Some(Wrong::Winner(place))),
-        None => by_rounds(heap, game, answer),
+    if let Some(place) = first_other(winners.as_slice(), answer.claims.as_slice()) {
+        return Ok(Some(Wrong::Winner(place)));
     }
+    if let Some(index) = other_mark(heap, game, winners.as_slice())? {
+        return Ok(Some(Wrong::Mark(index)));
+    }
+    by_rounds(heap, game, answer)
 }
 
 /// What is wrong with an answer by rounds alone: where they find nothing, it
@@ -170,6 +177,25 @@ pub fn by_rounds(heap: Global, game: &Game, answer: &Answer) -> Result<Option<Wr
         Err(Refusal::Wrong(wrong)) => Ok(Some(Wrong::Checker(wrong))),
         Err(Refusal::Fault(fault)) => Err(fault),
     }
+}
+
+/// The first move, in the order of the words, of which `winning_moves` says
+/// otherwise than all plans whether a winning plan makes it.
+fn other_mark(heap: Global, game: &Game, winners: &[Winner]) -> Result<Option<usize>, Fault> {
+    let made = plans::made(heap, game, winners)?;
+    let words = game.words(heap)?;
+    let lent = words.len().saturating_mul(9).saturating_add(65536);
+    let mut marks = vec![in heap; 0; words.len()]?;
+    let mut work = vec![in heap; 0; lent]?;
+    if winning_moves(words.as_slice(), marks.as_mut_slice(), work.as_mut_slice()).is_err() {
+        return Ok(Some(0));
+    }
+    let marks = marks.as_slice().get(game.len()..).unwrap_or(&[]);
+    Ok(
+        made.iter()
+            .zip(marks)
+            .position(|(made, mark)| *made != (*mark == 1)),
+    )
 }
 
 /// Gives one place, chosen by `turn`, to the other side.
