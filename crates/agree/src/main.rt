@@ -17,7 +17,7 @@ use allplans::side::Side;
 use report::{Error, Report};
 use std::alloc::Global;
 use std::process::ExitCode;
-use trial::{by_all_plans, by_rounds};
+use trial::{by_all_plans_and_moves, by_rounds};
 
 // As in the other programs: below them all is only the solver, which prints nothing,
 // and a crate for these lines would be longer than they are.
@@ -49,20 +49,26 @@ fn run(rt: &HostRuntime) -> Result<(), Error> {
 /// The small worked games, by all plans.
 fn worked(heap: Global, report: &mut Report) -> Result<(), Error> {
     report.head("against all plans, and by rounds")?;
-    report.try_game(&families::three(heap)?, &by_all_plans)?;
+    report.try_game(&families::three(heap)?, &by_all_plans_and_moves)?;
     report.line("three places")?;
     for weight in [0, 1, 2, 3, 60, 61, 254, 255] {
         for side in [Side::Even, Side::Odd] {
             report.try_game(
                 &families::one(heap, u32::from(side), weight)?,
-                &by_all_plans,
+                &by_all_plans_and_moves,
             )?;
         }
     }
     report.line("one place")?;
     for places in 1..9 {
-        report.try_game(&families::all_same(heap, places, 4)?, &by_all_plans)?;
-        report.try_game(&families::all_same(heap, places, 7)?, &by_all_plans)?;
+        report.try_game(
+            &families::all_same(heap, places, 4)?,
+            &by_all_plans_and_moves,
+        )?;
+        report.try_game(
+            &families::all_same(heap, places, 7)?,
+            &by_all_plans_and_moves,
+        )?;
     }
     report.line("all the same weight")
 }
@@ -75,7 +81,7 @@ fn small(heap: Global, report: &mut Report) -> Result<(), Error> {
             for weights in [2, 3, 5, 12, 256] {
                 report.try_game(
                     &families::at_random(heap, &mut random, places, 1, 3, weights)?,
-                    &by_all_plans,
+                    &by_all_plans_and_moves,
                 )?;
             }
         }

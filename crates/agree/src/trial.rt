@@ -14,6 +14,7 @@ use allplans::{checker, plans, reach};
 use endless::verdict::Rejection;
 use endless::{check, solve};
 use ends::solve_with_ends;
+use moves::winning_moves;
 use std::alloc::Global;
 use std::fmt;
 
@@ -39,6 +40,8 @@ pub enum Wrong {
     Slower { target: u32, side: Side },
     /// All plans have another winner here.
     Winner(usize),
+    /// All plans say otherwise of the move with this index in the words.
+    Mark(usize),
     /// The checker says so.
     Checker(checker::Wrong),
 }
@@ -67,6 +70,7 @@ impl fmt::Display for Wrong {
                 )
             }
             Wrong::Winner(place) => write!(f, "all plans have another winner at place {place}"),
+            Wrong::Mark(index) => write!(f, "all plans say otherwise of move {index}"),
             Wrong::Checker(wrong) => write!(f, "{wrong}"),
         }
     }
@@ -212,6 +216,21 @@ pub fn by_all_plans(heap: Global, game: &Game, answer: &Answer) -> Result<Option
     }
 }
 
+/// The same of a game without ends, and what is wrong with the moves that
+/// `winning_moves` marks in it.
+pub fn by_all_plans_and_moves(
+    heap: Global,
+    game: &Game,
+    answer: &Answer,
+) -> Result<Option<Wrong>, Fault>
+    ensures { IfOk result (λ wrong. IfNone wrong (RightAnswer game.now.places.items (winners answer.now.claims.items) (plan answer.now.claims.items))) }
+{
+    match other_mark(heap, game)? {
+        Some(wrong) => Ok(Some(wrong)),
+        None => by_all_plans(heap, game, answer),
+    }
+}
+
 /// What is wrong with an answer by rounds alone: where they find nothing, it
 /// is right.
 pub fn by_rounds(heap: Global, game: &Game, answer: &Answer) -> Result<Option<Wrong>, Fault>
@@ -222,6 +241,26 @@ pub fn by_rounds(heap: Global, game: &Game, answer: &Answer) -> Result<Option<Wr
         Err(Refusal::Wrong(wrong)) => Ok(Some(Wrong::Checker(wrong))),
         Err(Refusal::Fault(fault)) => Err(fault),
     }
+}
+
+/// The first move, in the order of the words, of which `winning_moves` says
+/// otherwise than all plans whether a winning plan makes it.
+fn other_mark(heap: Global, game: &Game) -> Result<Option<Wrong>, Fault> {
+    let winners = plans::winners(heap, game)?;
+    let made = plans::made(heap, game, winners.as_slice())?;
+    let words = game.words(heap)?;
+    let lent = words.len().saturating_mul(9).saturating_add(65536);
+    let mut marks = vec![in heap; 0; words.len()]?;
+    let mut work = vec![in heap; 0; lent]?;
+    if winning_moves(words.as_slice(), marks.as_mut_slice(), work.as_mut_slice()).is_err() {
+        return Ok(Some(Wrong::NoAnswer));
+    }
+    let marks = marks.as_slice().get(game.len()..).unwrap_or(&[]);
+    let other = made
+        .iter()
+        .zip(marks)
+        .position(|(made, mark)| *made != (*mark == 1));
+    Ok(other.map(|index| Wrong::Mark(index)))
 }
 
 /// Gives one place, chosen by `turn`, to the other side.

@@ -38,6 +38,57 @@ pub fn winners(heap: Global, game: &Game) -> Result<Vec<Winner>, Fault> {
     Ok(winners)
 }
 
+/// For each move, place by place, whether some plan makes it that wins from all
+/// places of the side that wins the move's place.
+pub fn made(heap: Global, game: &Game, winners: &[Winner]) -> Result<Vec<bool>, Fault> {
+    let moves = game.places.iter().fold(0usize, |sum, place| {
+        sum.saturating_add(place.moves.len())
+    });
+    let mut made = vec![in heap; false; moves]?;
+    mark_made(heap, game, winners, Side::Even, made.as_mut_slice())?;
+    mark_made(heap, game, winners, Side::Odd, made.as_mut_slice())?;
+    Ok(made)
+}
+
+/// Marks the moves of the plans that win from all places of `side`.
+fn mark_made(
+    heap: Global,
+    game: &Game,
+    winners: &[Winner],
+    side: Side,
+    made: &mut [bool],
+) -> Result<(), Fault> {
+    let mut choice = vec![in heap; 0usize; game.len()]?;
+    for _ in 0..MOST_PLANS {
+        let plan = Plan {
+            game,
+            side,
+            choice: choice.as_slice(),
+        };
+        let lost = plan.lost(heap)?;
+        if loses_none(winners, side, &lost) {
+            plan.mark(winners, made);
+        }
+        if !next_plan(game, side, choice.as_mut_slice()) {
+            return Ok(());
+        }
+    }
+    Err(Fault::ManyPlans)
+}
+
+/// Whether none of the places of `side` is lost.
+fn loses_none(winners: &[Winner], side: Side, lost: &PlaceSet) -> bool {
+    winners.iter().enumerate().all(|(place, winner)| *winner != Winner::Side(side)
+        || !lost.has(place))
+}
+
+/// Marks one.
+fn set(made: &mut [bool], k: usize) {
+    if let Some(mark) = made.get_mut(k) {
+        *mark = true;
+    }
+}
+
 /// For each place whether `side` wins from it by some plan.
 fn won_by(heap: Global, game: &Game, side: Side) -> Result<Vec<bool>, Fault> {
     let mut won = vec![in heap; false; game.len()]?;
@@ -95,6 +146,26 @@ impl<'a> Plan<'a> {
             .get(place)
             .and_then(|chosen| here.moves.get(*chosen));
         here.steps(self.side, chosen.map_or(&[], |to| slice::from_ref(to)))
+    }
+
+    /// Marks the plan's moves at the places that its side wins.
+    fn mark(self, winners: &[Winner], made: &mut [bool]) {
+        let mut first = 0usize;
+        for (place, here) in self.game.places.iter().enumerate() {
+            let chosen = self
+                .choice
+                .get(place)
+                .and_then(|chosen| here.moves.get(*chosen));
+            let wins = winners.get(place) == Some(&Winner::Side(self.side));
+            if wins && here.is_of(self.side) {
+                for (k, to) in here.moves.iter().enumerate() {
+                    if chosen == Some(to) {
+                        set(made, first.saturating_add(k));
+                    }
+                }
+            }
+            first = first.saturating_add(here.moves.len());
+        }
     }
 
     /// The places from which a play by this plan can come to a round that the
