@@ -6,7 +6,7 @@ use Rattle.endless.specs.Says.{WinsFrom, side, goes}
 use Rattle.endless.specs.View.{words_of}
 use Rattle.endless.specs.Checked.{IsAnswer}
 use Rattle.endless.proofs.Places.{from_place, to_place}
-use Rattle.endless.proofs.Reading.{both as both-of}
+use Rattle.endless.proofs.Tests.{both as both-of}
 use Rattle.endless.proofs.Theorems.{further}
 use Rattle.moves.specs.Alone.{alone}
 use Rattle.moves.specs.Moves.{Given, WinningMove}

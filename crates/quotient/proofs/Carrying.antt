@@ -6,8 +6,7 @@ use Rattle.endless.specs.Graph.{moves}
 use Rattle.endless.specs.Says.{WinsFrom}
 use Rattle.endless.proofs.Places.{from_place, to_place}
 use Rattle.endless.proofs.Theorems.{further}
-use Rattle.endless.proofs.Reading.{both}
-use Rattle.quotient.proofs.Tests.{from_both, true_T}
+use Rattle.endless.proofs.Tests.{both, from_both, true_T}
 use Rattle.quotient.specs.Alike.{Merged}
 use Rattle.quotient.specs.Says.{CarriedBack, PlanCarries, SameWinners, Theorems}
 

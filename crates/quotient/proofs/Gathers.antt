@@ -3,8 +3,7 @@ use Rattle.std.proofs.Common.{◌≡◌, ℕ, ◌+◌, ◌<◌, ◌≤◌, Bool,
 use Rattle.std.proofs.lemmas.Bool.{cases_eq, eq-eqb, ne_eqb}
 use Rattle.endless.specs.Sets.{In}
 use Rattle.endless.specs.Bits.{members, size, Inserted, Removed}
-use Rattle.endless.proofs.Reading.{both}
-use Rattle.quotient.proofs.Tests.{true_T, from_left, from_right}
+use Rattle.endless.proofs.Tests.{both, true_T, from_left, from_right}
 use Rattle.quotient.specs.Gathering.{Into, Gathered, Released, Nothing}
 
 -- of the first i moves

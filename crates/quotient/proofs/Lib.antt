@@ -1,4 +1,3 @@
-mod Tests
 mod Carrying
 mod Gathers
 mod Within

@@ -7,11 +7,10 @@ use Rattle.endless.specs.Games.{Among, first, later}
 use Rattle.endless.specs.Sets.{In}
 use Rattle.endless.specs.Bits.{digit, members, size, Removed, Least, NoneFrom}
 use Rattle.endless.proofs.CountLaws.{none_count, count_none}
-use Rattle.endless.proofs.Reading.{both}
+use Rattle.endless.proofs.Tests.{both, T_true, true_T}
 use Rattle.quotient.specs.Alike.{Ascending}
 use Rattle.quotient.specs.Gathering.{Nothing}
 use Rattle.quotient.specs.Numbering.{Emptied}
-use Rattle.quotient.proofs.Tests.{T_true, true_T}
 
 -- ---- a member is a bit of one of the words
 

@@ -8,14 +8,13 @@ use Rattle.endless.specs.Graph.{moves, edges}
 use Rattle.endless.specs.View.{words_of}
 use Rattle.endless.proofs.Nth.{nth_out}
 use Rattle.endless.proofs.Places.{ok_size, to_place, from_place}
-use Rattle.endless.proofs.Reading.{both}
+use Rattle.endless.proofs.Tests.{both, from_both}
 use Rattle.quotient.specs.Alike.{Bisimulation, Ascending, Merged}
 use Rattle.quotient.specs.Gathering.{Into}
 use Rattle.quotient.specs.Refining.{part, Parted, Same, Sound, Stable}
 use Rattle.quotient.specs.Numbering.{rank, Numbered, MadeOf}
 use Rattle.quotient.specs.Writing.{Written}
 use Rattle.quotient.specs.Promises.{Merges}
-use Rattle.quotient.proofs.Tests.{from_both}
 use Rattle.quotient.proofs.Ranks.{rank_le, rank_less, ranked}
 use Rattle.quotient.proofs.Sames.{into_among, among_into}
 use Rattle.quotient.proofs.Writing.{number_below}

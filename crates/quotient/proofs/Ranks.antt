@@ -1,9 +1,9 @@
 -- How many parts have their first place below a place.
 use Rattle.std.proofs.Common.{◌≡◌, ℕ, zero, suc, ◌+◌, ◌-◌, ◌<◌, ◌≤◌, ◌⊎◌, List, length, get_or, set, sym, ap, ◌∙◌, inl, inr, arith}
 use Rattle.std.proofs.lemmas.List.{get_or-set_same, get_or-set_other}
-use Rattle.std.proofs.lemmas.Bool.{cases_eq, cases_lt, eq-eqb, ne_eqb}
+use Rattle.std.proofs.lemmas.Bool.{cases_eq, cases_lt, eq-eqb}
 use Rattle.endless.specs.Games.{Game}
-use Rattle.endless.proofs.CountLaws.{count_zero, count_more, count_more_yes, count_more_no, count_le}
+use Rattle.endless.proofs.CountLaws.{one_if, one_other, count_zero, count_more, count_more_yes, count_le}
 use Rattle.quotient.specs.Refining.{part, Parted}
 use Rattle.quotient.specs.Numbering.{leads, rank}
 
@@ -18,7 +18,7 @@ pub rank_lead : (parts : List ℕ) (n : ℕ) → part parts n ≡ n → rank par
 rank_lead parts n e = count_more_yes (leads parts) n (eq-eqb (part parts n) n e)
 
 pub rank_else : (parts : List ℕ) (n : ℕ) → (part parts n ≡ n → ⊥) → rank parts (n + 1) ≡ rank parts n
-rank_else parts n d = count_more_no (leads parts) n (ne_eqb (part parts n) n d)
+rank_else parts n d = let a : one_if (leads parts n) ≡ 0 = one_other (part parts n) n d in omega (arith, count_more (leads parts) n)
 
 rank_grows : (parts : List ℕ) (n k : ℕ) → rank parts n ≤ rank parts (n + k)
 rank_grows parts n zero = let z : n + zero ≡ n = omega arith in omega (arith, ap (rank parts) z)

@@ -8,11 +8,11 @@ use Rattle.endless.specs.Graph.{moves, Reading}
 use Rattle.endless.specs.View.{words_of}
 use Rattle.endless.proofs.Among.{among_at}
 use Rattle.endless.proofs.Places.{Fine, ok_parts, ok_from, side_below, weight_below, has_move, to_place}
-use Rattle.endless.proofs.Reading.{reading_start, reading_next}
+use Rattle.endless.proofs.Reading.{reading_next}
+use Rattle.endless.proofs.Tests.{from_both}
 use Rattle.quotient.specs.Refining.{part, Parted}
 use Rattle.quotient.specs.Numbering.{rank, Numbered, MadeOf, Put}
 use Rattle.quotient.specs.Writing.{Writes}
-use Rattle.quotient.proofs.Tests.{from_both}
 use Rattle.quotient.proofs.Ranks.{rank_none, rank_lead, rank_else, rank_less, rank_le}
 use Rattle.quotient.proofs.Sames.{into_among, among_into}
 
@@ -73,7 +73,7 @@ module _ {g : Game} {parts : List ℕ} {words : ℕ} (parted : Parted g parts wo
     put = take_more_set before 0 count room ∙ ap (λ (n : ℕ). n ∷ []) is;
     made = λ n h. absurd (omega arith);
     read = 1;
-    reading = reading_start g;
+    reading = record { left = refl; bound = omega arith };
     few = omega arith;
     behind = λ k h. get_or-set_other before 0 k count 0 (λ e. omega arith);
   }
