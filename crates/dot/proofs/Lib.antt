@@ -1,2 +1,3 @@
 mod Labels
 mod Plans
+mod Marks

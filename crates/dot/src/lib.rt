@@ -18,15 +18,17 @@
 //! its name and below it its weight. Places that side 0 wins are blue with a
 //! solid line, those that side 1 wins orange with a dashed line, so that the
 //! picture can be read with no colours too; a place that the answer gives to
-//! neither side is blank. The moves of the winner's plan are bold. A line of
-//! the picture says so.
+//! neither side is blank. The moves of the winner's plan are bold, or, where
+//! moves are marked, all that are. A line of the picture says so.
 //!
 //! Nodes are named by the places' numbers, and the names stand in their
 //! labels alone. The graph is strict, so a move that a place has twice is
 //! drawn once. `dot -Tsvg` makes an image of the text.
 #![tactic(auto)]
 
+mod bold;
 mod label;
 mod picture;
 
+pub use bold::Bold;
 pub use picture::Picture;

@@ -7,6 +7,7 @@ use std::env::Args;
 
 pub const HELP: &str =
     "usage: endless_solve [--format FORM] [--output FORM] [--merge] [--summary] [FILE ..]
+       endless_solve [--format FORM] --output dot --all-moves [--summary] [FILE ..]
        endless_solve --ends [--format FORM] [--output FORM] [FILE ..]
        endless_solve [--format FORM] --check ANSWER [FILE]
        endless_solve [--format FORM] --reach NAME [--side 0|1] [FILE ..]
@@ -26,13 +27,16 @@ FILE each is told behind a line # FILE, up to the first that is refused.
                      makes which wins for that side from all its places
   --output answer    the answer as words: for each place a side and a place
   --output solution  the answer in PGSolver's form: ID WINNER MOVE;
-  --output dot       the game and its answer as a picture for Graphviz
+  --output dot       the game and its answer as a picture for Graphviz, in which
+                     the moves of the winner's plan are bold
   --output words     the game as words: how many places; then a line for each
                      place: whose it is, its weight, how many moves, the moves
   --output drawing   the game as a drawing
   --output pg        the game in PGSolver's form
   --output summary   that it is a game, and how many places each side has
 
+  --all-moves        with --output dot: all moves that --output moves tells are
+                     bold
   --ends             a place of a drawing may have no moves: a play ends there,
                      and whoever is to move has lost; --output is places, answer
                      or words
@@ -73,13 +77,32 @@ pub enum Answer {
     Dot,
 }
 
+/// A form in which all moves are printed that some winning plan makes.
+#[derive(Clone, Copy)]
+pub enum Moves {
+    Lines,
+    Dot,
+}
+
 /// What is to be printed.
 #[derive(Clone, Copy)]
 pub enum Output {
     Game(Game),
     Answer(Answer),
-    /// All moves that some winning plan makes.
-    Moves,
+    Moves(Moves),
+}
+
+impl Output {
+    /// The same form of output with all moves in the place of one plan's, if
+    /// there is one.
+    fn with_all_moves(self) -> Option<Output> {
+        match self {
+            Output::Answer(Answer::Dot) => Some(Output::Moves(Moves::Dot)),
+            Output::Answer(Answer::Places | Answer::Words | Answer::Solution)
+            | Output::Game(_)
+            | Output::Moves(_) => None,
+        }
+    }
 }
 
 /// What can be printed of a game with ends.
@@ -99,7 +122,7 @@ impl EndsOutput {
             Output::Game(Game::Words) => Some(EndsOutput::Words),
             Output::Answer(Answer::Solution | Answer::Dot)
             | Output::Game(Game::Drawing | Game::Pg | Game::Summary)
-            | Output::Moves => None,
+            | Output::Moves(_) => None,
         }
     }
 }
@@ -111,7 +134,7 @@ impl TryFrom<String> for Output {
     fn try_from(name: String) -> Result<Output, String> {
         match name.as_str() {
             "places" => Ok(Output::Answer(Answer::Places)),
-            "moves" => Ok(Output::Moves),
+            "moves" => Ok(Output::Moves(Moves::Lines)),
             "answer" => Ok(Output::Answer(Answer::Words)),
             "solution" => Ok(Output::Answer(Answer::Solution)),
             "dot" => Ok(Output::Answer(Answer::Dot)),
@@ -171,6 +194,7 @@ struct Options {
     files: Vec<String>,
     form: Option<Form>,
     output: Output,
+    all_moves: bool,
     merge: bool,
     summary: bool,
     ends: bool,
@@ -186,6 +210,7 @@ impl Options {
             files,
             form,
             output,
+            all_moves,
             merge,
             summary,
             ends,
@@ -193,10 +218,16 @@ impl Options {
             reach,
             side,
         } = self;
+        let output = if all_moves {
+            output.with_all_moves().ok_or(Fault::AllMoves)?
+        } else {
+            output
+        };
         let task = match (check, reach) {
             (Some(_), Some(_)) => return Err(Fault::TwoTasks),
             (Some(_), None) | (None, Some(_)) if ends => return Err(Fault::EndsTask),
             (Some(_), None) | (None, Some(_)) if merge => return Err(Fault::MergeTask),
+            (Some(_), None) | (None, Some(_)) if all_moves => return Err(Fault::AllMoves),
             (Some(answer), None) => Task::Check(answer),
             (None, Some(target)) => Task::Reach { target, side },
             (None, None) if ends && (merge || summary) => return Err(Fault::EndsOutput),
@@ -204,7 +235,7 @@ impl Options {
                 Task::ShowWithEnds(EndsOutput::of(output).ok_or(Fault::EndsOutput)?)
             }
             (None, None) => match output {
-                Output::Moves if merge => return Err(Fault::MergeTask),
+                Output::Moves(_) if merge => return Err(Fault::MergeTask),
                 _ => Task::Show {
                     output,
                     merge,
@@ -230,6 +261,7 @@ pub(crate) fn parse(heap: Global, args: Args) -> Result<Request, Fault> {
         files: Vec::new(heap),
         form: None,
         output: Output::Answer(Answer::Places),
+        all_moves: false,
         merge: false,
         summary: false,
         ends: false,
@@ -241,6 +273,7 @@ pub(crate) fn parse(heap: Global, args: Args) -> Result<Request, Fault> {
     while let Some(arg) = args.next() {
         match arg.as_str() {
             "--help" => return Ok(Request::Help),
+            "--all-moves" => options.all_moves = true,
             "--merge" => options.merge = true,
             "--summary" => options.summary = true,
             "--ends" => options.ends = true,

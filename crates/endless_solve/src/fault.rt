@@ -34,6 +34,8 @@ pub enum Fault {
     EndsTask,
     /// What is to be told is not told through the smaller game.
     MergeTask,
+    /// All moves are to be told in a form that has the moves of one plan alone.
+    AllMoves,
     /// Something is to be printed of a game with ends that is of games without.
     EndsOutput,
     /// An answer is to be looked at for more than one game.
@@ -95,7 +97,10 @@ impl fmt::Display for Fault {
                 "--check and --reach are of games without ends; leave out --ends",
             ),
             Fault::MergeTask => f.write_str(
-                "--merge is of a game or its answer; leave it out with --check, --reach and --output moves",
+                "--merge is of a game or its answer; leave it out with --check, --reach, --output moves and --all-moves",
+            ),
+            Fault::AllMoves => f.write_str(
+                "--all-moves is of --output dot; leave it out with any other output, and with --check and --reach",
             ),
             Fault::EndsOutput => f.write_str(
                 "with --ends the output is places, answer or words, with neither --merge nor --summary",

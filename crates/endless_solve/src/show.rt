@@ -1,9 +1,9 @@
 //! A game or its answer is printed.
-use crate::args::{Answer, EndsOutput, Game, Output};
+use crate::args::{Answer, EndsOutput, Game, Moves, Output};
 use crate::fault::Fault;
 use crate::merged::smaller;
 use crate::{all_moves, input, report, solution, summary};
-use dot::Picture;
+use dot::{Bold, Picture};
 use drawing::Sheet;
 use endless::graph::Places;
 use endless::words::GameWords;
@@ -52,14 +52,21 @@ pub(crate) fn show(
                 summary::tell(rt, name, words, &solved)?;
             }
         }
-        Output::Moves => {
+        Output::Moves(form) => {
             let Source { words, labels } = source;
             let words = words.as_slice();
             let marks = all_moves::find(heap, words)?;
             let game = GameWords::read(words).ok_or(Fault::Unsolved)?;
             let mut starts = vec![in heap; [0, 0]; game.len() as usize]?;
             let places = Places::new(game, starts.as_mut_slice());
-            show_moves(rt, &places, labels, marks.as_slice())?;
+            match form {
+                Moves::Lines => show_moves(rt, &places, labels, marks.as_slice())?,
+                Moves::Dot => {
+                    let solved = solution::solve(rt, words, merge)?;
+                    let answer = solved.answer.as_slice();
+                    show_marked(rt, &places, labels, answer, marks.as_slice())?;
+                }
+            }
             if summary {
                 summary::tell(rt, name, words, &solution::solve(rt, words, merge)?)?;
             }
@@ -155,6 +162,7 @@ fn show_answer<'a>(
                 places,
                 names: names.as_slice(),
                 answer,
+                bold: Bold::Plan,
             };
             write!(out, "{picture}")?;
         }
@@ -187,6 +195,29 @@ fn show_moves<'a>(
     let names = labels.into_names(heap)?;
     let mut out = BufWriter::new(heap, rt.stdout())?;
     all_moves::lines(&mut out, names.as_slice(), places, marks)?;
+    out.flush()?;
+    Ok(())
+}
+
+/// The game and its answer as a picture in which all moves are bold that some
+/// winning plan makes.
+fn show_marked<'a>(
+    rt: &HostRuntime,
+    places: &'a Places<'a>,
+    labels: Labels,
+    answer: &'a [u32],
+    marks: &[u32],
+) -> Result<(), Fault> {
+    let heap = rt.alloc();
+    let names = labels.into_names(heap)?;
+    let mut out = BufWriter::new(heap, rt.stdout())?;
+    let picture = Picture {
+        places,
+        names: names.as_slice(),
+        answer,
+        bold: Bold::Marks(marks),
+    };
+    write!(out, "{picture}")?;
     out.flush()?;
     Ok(())
 }

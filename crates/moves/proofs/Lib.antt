@@ -1,6 +1,6 @@
 mod Alone
 mod Trials
-mod Lists
+pub mod Lists
 mod Leading
 mod Avoiding
 mod Marks
