@@ -2,3 +2,4 @@ mod Views
 mod Claims
 mod Checks
 mod Layers
+mod Alikes

@@ -7,3 +7,4 @@ pub mod Checked
 pub mod Sets
 pub mod Walks
 pub mod Distances
+pub mod Alike

@@ -109,6 +109,84 @@ fn go_anywhere(
     Ok(())
 }
 
+/// So many copies of the places of a game, each of them once at least, in any
+/// order: what moves to a place there moves to some copy of it here, and as often
+/// as not some move is made again, maybe to another copy.
+pub fn copied(
+    heap: Global,
+    random: &mut Random,
+    game: &Game,
+    copies: u32,
+) -> Result<FineGame, Fault> {
+    let origins = origins(heap, random, u32::try_from(game.len())?, copies)?;
+    let mut copied = Builder::new(heap);
+    for origin in origins.iter() {
+        let here = game.places.get(*origin as usize).ok_or(Fault::NoGame)?;
+        let moves = copied_moves(heap, random, origins.as_slice(), here.moves.as_slice())?;
+        copied.place(Side::try_from(here.whose)?, here.weight, moves.as_slice())?;
+    }
+    copied.finish()
+}
+
+/// Which of so many places each copy is one of.
+fn origins(heap: Global, random: &mut Random, places: u32, copies: u32) -> Result<Vec<u32>, Fault> {
+    let mut origins = Vec::new(heap);
+    for copy in 0..copies {
+        origins.push(if copy < places {
+            copy
+        } else {
+            random.below(places)
+        })?;
+    }
+    shuffle(random, origins.as_mut_slice())?;
+    Ok(origins)
+}
+
+/// These moves, each to some copy of where it goes, and maybe one of them again.
+fn copied_moves(
+    heap: Global,
+    random: &mut Random,
+    origins: &[u32],
+    moves: &[u32],
+) -> Result<Vec<u32>, Fault> {
+    let mut copied = Vec::new(heap);
+    for to in moves {
+        copied.push(some_copy(heap, random, origins, *to)?)?;
+    }
+    if random.below(2) == 0 {
+        let again = some_of(random, moves)?;
+        copied.push(some_copy(heap, random, origins, again)?)?;
+    }
+    shuffle(random, copied.as_mut_slice())?;
+    Ok(copied)
+}
+
+/// Some copy of a place.
+fn some_copy(heap: Global, random: &mut Random, origins: &[u32], place: u32) -> Result<u32, Fault> {
+    let mut copies = Vec::new(heap);
+    for (copy, origin) in origins.iter().enumerate() {
+        if *origin == place {
+            copies.push(u32::try_from(copy)?)?;
+        }
+    }
+    some_of(random, copies.as_slice())
+}
+
+/// One of these.
+fn some_of(random: &mut Random, items: &[u32]) -> Result<u32, Fault> {
+    let at = random.below(u32::try_from(items.len())?);
+    items.get(at as usize).copied().ok_or(Fault::NoGame)
+}
+
+/// Puts these in another order.
+fn shuffle(random: &mut Random, items: &mut [u32]) -> Result<(), Fault> {
+    for last in 1..u32::try_from(items.len())? {
+        let at = random.below(last + 1);
+        items.swap(at as usize, last as usize);
+    }
+    Ok(())
+}
+
 /// Clusters of places with three moves each: all stay in the cluster, but for
 /// one in sixteen of the third moves, which goes to the next cluster.
 pub fn clusters(

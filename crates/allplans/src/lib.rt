@@ -7,6 +7,7 @@
 //! to try are made here too.
 #![tactic(auto)]
 
+pub mod alike;
 pub mod answer;
 mod builder;
 pub mod checker;
