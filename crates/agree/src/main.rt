@@ -5,6 +5,7 @@
 mod answer;
 mod changes;
 mod distances;
+mod merged;
 mod report;
 mod tally;
 mod trial;
@@ -39,6 +40,7 @@ fn run(rt: &HostRuntime) -> Result<(), Error> {
     changed(heap, &mut report)?;
     attractors(heap, &mut report)?;
     soonest(heap, &mut report)?;
+    made_one(heap, &mut report)?;
     ended(heap, &mut report)?;
     ended_changed(heap, &mut report)?;
     hard(heap, &mut report)?;
@@ -146,6 +148,25 @@ fn soonest(heap: Global, report: &mut Report) -> Result<(), Error> {
             }
         }
         report.sized("at random, places", places)?;
+    }
+    Ok(())
+}
+
+/// 2,000 games that are copies at random of the places of smaller ones, with the
+/// alike places made one.
+fn made_one(heap: Global, report: &mut Report) -> Result<(), Error> {
+    report.head_of("alike places", ["places", "smaller", "moves"])?;
+    let mut random = Random::new(1971);
+    for places in 1..9u32 {
+        for _ in 0..50 {
+            for weights in [1, 2, 3, 5, 12] {
+                let few = 1 + random.below(places.min(4));
+                let game = families::at_random(heap, &mut random, few, 1, 2, weights)?;
+                let game = families::copied(heap, &mut random, &game.game, places)?;
+                report.try_merged(&game)?;
+            }
+        }
+        report.sized("copies at random, places", places)?;
     }
     Ok(())
 }

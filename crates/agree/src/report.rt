@@ -143,6 +143,16 @@ impl<'a> Report<'a> {
         Ok(())
     }
 
+    /// Tries to make alike places of a game one, and prints it if what comes is
+    /// wrong.
+    pub fn try_merged(&mut self, game: &FineGame) -> Result<(), Error> {
+        let game = &game.game;
+        if let Some(wrong) = self.desk.try_merged(game, &mut self.tally)? {
+            self.show(game, &wrong)?;
+        }
+        Ok(())
+    }
+
     /// Tries a game in which places may have no moves, and prints it if its
     /// answer is wrong.
     pub fn try_ends(&mut self, game: &EndsGame) -> Result<(), Error> {

@@ -5,6 +5,7 @@ ghost use Rattle.allplans.specs.Claims.{plan, winners};
 
 use crate::answer::attractor;
 use crate::tally::Tally;
+use allplans::alike::Pair;
 use allplans::checker::{Answer, Claim, Refusal};
 use allplans::fault::Fault;
 use allplans::game::{Game, MOST_PLACES};
@@ -38,6 +39,15 @@ pub enum Wrong {
     Distances { target: u32, side: Side },
     /// The plan for a side takes more moves to a place than it tells, or is none.
     Slower { target: u32, side: Side },
+    /// Other places became one than those that are alike by all pairs, or they
+    /// are numbered otherwise.
+    Map,
+    /// This place became one of another side or weight, or with other moves.
+    Smaller(usize),
+    /// These two places of the smaller game are alike.
+    Alike(Pair),
+    /// All plans have another winner here than in the smaller game.
+    SmallerWinner(usize),
     /// All plans have another winner here.
     Winner(usize),
     /// All plans say otherwise of the move with this index in the words.
@@ -67,6 +77,17 @@ impl fmt::Display for Wrong {
                 write!(
                     f,
                     "more moves by the plan to place {target} for side {side}"
+                )
+            }
+            Wrong::Map => write!(f, "all pairs make other places one"),
+            Wrong::Smaller(place) => write!(f, "place {place} became another one"),
+            Wrong::Alike(Pair { one, other }) => {
+                write!(f, "places {one} and {other} of the smaller game are alike")
+            }
+            Wrong::SmallerWinner(place) => {
+                write!(
+                    f,
+                    "all plans have another winner at place {place} than in the smaller game"
                 )
             }
             Wrong::Winner(place) => write!(f, "all plans have another winner at place {place}"),
