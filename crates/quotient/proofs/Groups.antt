@@ -4,12 +4,12 @@ use Rattle.std.proofs.lemmas.List.{get_or-set_same, get_or-set_other}
 use Rattle.std.proofs.lemmas.Nat.{mod_below}
 use Rattle.std.proofs.lemmas.Bool.{cases_eq, cases_lt}
 use Rattle.endless.specs.Games.{Game}
-use Rattle.quotient.specs.Refining.{part, Same, bucket, Linked, here, next, Descends, Grouping, Grouped}
+use Rattle.quotient.specs.Refining.{part, Alike, look, Linked, here, next, Descends, Grouping, Grouped}
 use Rattle.quotient.proofs.Sames.{same_self, same_back, same_then, same_bucket}
 use Rattle.quotient.proofs.Chains.{linked_cases, linked_none, relink}
 
-pub grouping_none : (g : Game) (parts made heads links : List ℕ) → ((k : ℕ) → get_or heads k 0 ≡ 0) → ((k : ℕ) → get_or links k 0 ≡ 0) → Grouping g parts made heads links 0
-grouping_none g parts made heads links h l = record {
+pub grouping_none : (g : Game) (parts list made heads links : List ℕ) → ((k : ℕ) → get_or heads k 0 ≡ 0) → ((k : ℕ) → get_or links k 0 ≡ 0) → Grouping g parts list made heads links 0
+grouping_none g parts list made heads links h l = record {
   low = λ n x. absurd (omega arith);
   lead = λ n x. absurd (omega arith);
   same = λ n x. absurd (omega arith);
@@ -20,7 +20,7 @@ grouping_none g parts made heads links h l = record {
   descends = λ k. omega (arith, l k);
 }
 
-module _ {g : Game} {parts made heads links : List ℕ} {i : ℕ} (so_far : Grouping g parts made heads links i) (more : i < length g) (long : length made ≡ length g) where
+module _ {g : Game} {parts list made heads links : List ℕ} {i : ℕ} (so_far : Grouping g parts list made heads links i) (more : i < length list) (long : length made ≡ length list) where
   -- those before stay as they are
   before : (x n : ℕ) → n < i → part (set made i x) n ≡ part made n
   before x n h = get_or-set_other made i n x 0 (λ e. omega arith)
@@ -40,13 +40,13 @@ module _ {g : Game} {parts made heads links : List ℕ} {i : ℕ} (so_far : Grou
       let l = so_far.low n h in
       ap (part (set made i x)) (before x n h) ∙ before x (part made n) (omega arith) ∙ so_far.lead n h ∙ sym (before x n h)
 
-  same_before : (x n : ℕ) → n < i → Same g parts n (part (set made i x) n)
-  same_before x n h = subst (Same g parts n) (sym (before x n h)) (so_far.same n h)
+  same_before : (x n : ℕ) → n < i → Alike g parts list n (part (set made i x) n)
+  same_before x n h = subst (Alike g parts list n) (sym (before x n h)) (so_far.same n h)
 
   -- the place is not told apart from a first place, which its chain has
-  module _ {lead : ℕ} (found : Linked links (get_or heads (bucket g parts i) 0) lead) (alike : Same g parts i lead) (below : bucket g parts i < length g) where
+  module _ {lead : ℕ} (found : Linked links (get_or heads (look g parts list i) 0) lead) (alike : Alike g parts list i lead) (below : look g parts list i < length list) where
     first_lead : (lead < i) × (part made lead ≡ lead)
-    first_lead = so_far.chained (bucket g parts i) lead below found
+    first_lead = so_far.chained (look g parts list i) lead below found
 
     not_first : (n : ℕ) → n ≡ i → part (set made i lead) n ≡ n → ⊥
     not_first n e f = let a : lead ≡ n = sym (now lead) ∙ ap (part (set made i lead)) (sym e) ∙ f in omega (arith, first_lead.0)
@@ -54,7 +54,7 @@ module _ {g : Game} {parts made heads links : List ℕ} {i : ℕ} (so_far : Grou
     was_first : (n : ℕ) → n < i → part (set made i lead) n ≡ n → part made n ≡ n
     was_first n h f = sym (before lead n h) ∙ f
 
-    pub grouping_found : Grouping g parts (set made i lead) heads links (i + 1)
+    pub grouping_found : Grouping g parts list (set made i lead) heads links (i + 1)
     grouping_found = record {
       low = λ n h. low n (which n h);
       lead = λ n h. leads n (which n h);
@@ -74,24 +74,24 @@ module _ {g : Game} {parts made heads links : List ℕ} {i : ℕ} (so_far : Grou
         leads n (inl h) = lead_before lead n h
         leads n (inr e) = let a = ap (part (set made i lead)) e ∙ now lead in ap (part (set made i lead)) a ∙ before lead lead first_lead.0 ∙ first_lead.1 ∙ sym a
 
-        same : (n : ℕ) → (n < i) ⊎ (n ≡ i) → Same g parts n (part (set made i lead) n)
+        same : (n : ℕ) → (n < i) ⊎ (n ≡ i) → Alike g parts list n (part (set made i lead) n)
         same n (inl h) = same_before lead n h
-        same n (inr e) = subst (λ (k : ℕ). Same g parts k (part (set made i lead) k)) (sym e) (subst (Same g parts i) (sym (now lead)) alike)
+        same n (inr e) = subst (λ (k : ℕ). Alike g parts list k (part (set made i lead) k)) (sym e) (subst (Alike g parts list i) (sym (now lead)) alike)
 
-        apart : (l n : ℕ) → l < n → (n < i) ⊎ (n ≡ i) → part (set made i lead) l ≡ l → part (set made i lead) n ≡ n → Same g parts n l → ⊥
+        apart : (l n : ℕ) → l < n → (n < i) ⊎ (n ≡ i) → part (set made i lead) l ≡ l → part (set made i lead) n ≡ n → Alike g parts list n l → ⊥
         apart l n h (inl k) a b = so_far.apart l n h k (was_first l (omega arith) a) (was_first n k b)
         apart l n h (inr e) a b = absurd (not_first n e b)
 
-        linked : (l : ℕ) → (l < i) ⊎ (l ≡ i) → part (set made i lead) l ≡ l → Linked links (get_or heads (bucket g parts l) 0) l
+        linked : (l : ℕ) → (l < i) ⊎ (l ≡ i) → part (set made i lead) l ≡ l → Linked links (get_or heads (look g parts list l) 0) l
         linked l (inl h) f = so_far.linked l h (was_first l h f)
         linked l (inr e) f = absurd (not_first l e f)
 
   -- it is told apart from all that its chain has
-  module _ (none : (l : ℕ) → Linked links (get_or heads (bucket g parts i) 0) l → Same g parts i l → ⊥) (inside : (l : ℕ) → bucket g parts l < length g) (heads_long : length heads ≡ length g) (links_long : length links ≡ length g) where
+  module _ (none : (l : ℕ) → Linked links (get_or heads (look g parts list i) 0) l → Alike g parts list i l → ⊥) (inside : (l : ℕ) → look g parts list l < length list) (heads_long : length heads ≡ length list) (links_long : length links ≡ length list) where
     abbrev b₀ : ℕ
-    b₀ = bucket g parts i
+    b₀ = look g parts list i
 
-    below : b₀ < length g
+    below : b₀ < length list
     below = inside i
 
     abbrev heads' : List ℕ
@@ -132,13 +132,13 @@ module _ {g : Game} {parts made heads links : List ℕ} {i : ℕ} (so_far : Grou
     first_before : (n : ℕ) → n < i → part made' n ≡ n → part made n ≡ n
     first_before n h f = sym (before i n h) ∙ f
 
-    pub grouping_new : Grouping g parts made' heads' links' (i + 1)
+    pub grouping_new : Grouping g parts list made' heads' links' (i + 1)
     grouping_new = record {
       low = λ n h. low n (which n h);
       lead = λ n h. leads n (which n h);
       same = λ n h. same n (which n h);
       apart = λ l n h k a b. apart l n h (which n k) a b;
-      linked = λ l h f. linked l (which l h) f (cases_eq (bucket g parts l) b₀);
+      linked = λ l h f. linked l (which l h) f (cases_eq (look g parts list l) b₀);
       chained = λ b l h x. chained b l h x (cases_eq b b₀);
       starts = λ b h. starts b h (cases_eq b b₀);
       descends = down;
@@ -152,25 +152,25 @@ module _ {g : Game} {parts made heads links : List ℕ} {i : ℕ} (so_far : Grou
         leads n (inl h) = lead_before i n h
         leads n (inr e) = let a = ap (part made') e ∙ now i in ap (part made') a ∙ now i ∙ sym a
 
-        same : (n : ℕ) → (n < i) ⊎ (n ≡ i) → Same g parts n (part made' n)
+        same : (n : ℕ) → (n < i) ⊎ (n ≡ i) → Alike g parts list n (part made' n)
         same n (inl h) = same_before i n h
-        same n (inr e) = subst (λ (k : ℕ). Same g parts k (part made' k)) (sym e) (subst (Same g parts i) (sym (now i)) (same_self g parts i))
+        same n (inr e) = subst (λ (k : ℕ). Alike g parts list k (part made' k)) (sym e) (subst (Alike g parts list i) (sym (now i)) (same_self g parts (part list i)))
 
-        apart : (l n : ℕ) → l < n → (n < i) ⊎ (n ≡ i) → part made' l ≡ l → part made' n ≡ n → Same g parts n l → ⊥
+        apart : (l n : ℕ) → l < n → (n < i) ⊎ (n ≡ i) → part made' l ≡ l → part made' n ≡ n → Alike g parts list n l → ⊥
         apart l n h (inl k) a b s = so_far.apart l n h k (first_before l (omega arith) a) (first_before n k b) s
         apart l n h (inr e) a b s =
-            let x : Same g parts i l = subst (λ (k : ℕ). Same g parts k l) e s in
-            none l (subst (λ (b : ℕ). Linked links (get_or heads b 0) l) (sym (same_bucket g parts i l x)) (so_far.linked l (omega arith) (first_before l (omega arith) a))) x
+            let x : Alike g parts list i l = subst (λ (k : ℕ). Alike g parts list k l) e s in
+            none l (subst (λ (b : ℕ). Linked links (get_or heads b 0) l) (sym (same_bucket g parts (length list) (part list i) (part list l) x)) (so_far.linked l (omega arith) (first_before l (omega arith) a))) x
 
-        linked : (l : ℕ) → (l < i) ⊎ (l ≡ i) → part made' l ≡ l → (bucket g parts l ≡ b₀) ⊎ (bucket g parts l ≡ b₀ → ⊥) → Linked links' (get_or heads' (bucket g parts l) 0) l
+        linked : (l : ℕ) → (l < i) ⊎ (l ≡ i) → part made' l ≡ l → (look g parts list l ≡ b₀) ⊎ (look g parts list l ≡ b₀ → ⊥) → Linked links' (get_or heads' (look g parts list l) 0) l
         linked l (inl h) f (inr d) = subst (λ (x : ℕ). Linked links' x l) (sym (head_else _ d)) (to_new (so_far.starts _ (inside l)) (so_far.linked l h (first_before l h f)))
         linked l (inl h) f (inl e) =
             let old : Linked links (get_or heads b₀ 0) l = subst (λ (b : ℕ). Linked links (get_or heads b 0) l) e (so_far.linked l h (first_before l h f)) in
             let behind : Linked links' (get_or links' i 0) l = subst (λ (x : ℕ). Linked links' x l) (sym link_here) (to_new (so_far.starts b₀ below) old) in
             subst (λ (x : ℕ). Linked links' x l) (sym (ap (λ (b : ℕ). get_or heads' b 0) e ∙ head_here)) (next behind)
-        linked l (inr s) f c = subst (λ (k : ℕ). Linked links' (get_or heads' (bucket g parts k) 0) k) (sym s) (subst (λ (x : ℕ). Linked links' x i) (sym head_here) here)
+        linked l (inr s) f c = subst (λ (k : ℕ). Linked links' (get_or heads' (look g parts list k) 0) k) (sym s) (subst (λ (x : ℕ). Linked links' x i) (sym head_here) here)
 
-        chained : (b l : ℕ) → b < length g → Linked links' (get_or heads' b 0) l → (b ≡ b₀) ⊎ (b ≡ b₀ → ⊥) → (l < i + 1) × (part made' l ≡ l)
+        chained : (b l : ℕ) → b < length list → Linked links' (get_or heads' b 0) l → (b ≡ b₀) ⊎ (b ≡ b₀ → ⊥) → (l < i + 1) × (part made' l ≡ l)
         chained b l h x (inr d) =
             let t = so_far.chained b l h (to_old (so_far.starts b h) (subst (λ (y : ℕ). Linked links' y l) (head_else b d) x)) in
             (omega (arith, t.0), before i l t.0 ∙ t.1)
@@ -182,26 +182,26 @@ module _ {g : Game} {parts made heads links : List ℕ} {i : ℕ} (so_far : Grou
                 let t = so_far.chained b₀ l below (to_old (so_far.starts b₀ below) (subst (λ (z : ℕ). Linked links' z l) link_here y)) in
                 (omega (arith, t.0), before i l t.0 ∙ t.1)
 
-        starts : (b : ℕ) → b < length g → (b ≡ b₀) ⊎ (b ≡ b₀ → ⊥) → get_or heads' b 0 ≤ i + 1
+        starts : (b : ℕ) → b < length list → (b ≡ b₀) ⊎ (b ≡ b₀ → ⊥) → get_or heads' b 0 ≤ i + 1
         starts b h (inl e) = omega (arith, ap (λ (c : ℕ). get_or heads' c 0) e, head_here)
         starts b h (inr d) = omega (arith, head_else b d, so_far.starts b h)
 
--- a bucket is one of as many as there are places
-pub bucket_below : (g : Game) (parts : List ℕ) → 0 < length g → (n : ℕ) → bucket g parts n < length g
-bucket_below g parts some n = mod_below _ (length g) some
+-- a bucket is one of as many as the list has places
+pub look_below : (g : Game) (parts list : List ℕ) → 0 < length list → (n : ℕ) → look g parts list n < length list
+look_below g parts list some n = mod_below _ (length list) some
 
 -- all are
-pub grouping_all : {g : Game} {parts made heads links : List ℕ} {i : ℕ} → i ≡ length g → Grouping g parts made heads links i → Grouped g parts made
-grouping_all {g} {parts} {made} {i = i} all k = record {
+pub grouping_all : {g : Game} {parts list made heads links : List ℕ} {i : ℕ} → i ≡ length list → Grouping g parts list made heads links i → Grouped g parts list made
+grouping_all {g} {parts} {list} {made} {i = i} all k = record {
   low = λ n h. k.low n (omega arith);
   lead = λ n h. k.lead n (omega arith);
   same = λ n h. k.same n (omega arith);
   one = λ n m h j s.
-      let x : Same g parts (part made n) (part made m) = same_then (same_back (k.same n (omega arith))) (same_then s (k.same m (omega arith))) in
+      let x : Alike g parts list (part made n) (part made m) = same_then (same_back (k.same n (omega arith))) (same_then s (k.same m (omega arith))) in
       one n m (omega arith) (omega arith) x (cases_lt (part made n) (part made m)) (cases_lt (part made m) (part made n));
 }
   where
-    one : (n m : ℕ) → n < i → m < i → Same g parts (part made n) (part made m) → (part made n < part made m) ⊎ (part made m ≤ part made n) → (part made m < part made n) ⊎ (part made n ≤ part made m) → part made n ≡ part made m
+    one : (n m : ℕ) → n < i → m < i → Alike g parts list (part made n) (part made m) → (part made n < part made m) ⊎ (part made m ≤ part made n) → (part made m < part made n) ⊎ (part made n ≤ part made m) → part made n ≡ part made m
     one n m h j x (inl a) c = absurd (k.apart (part made n) (part made m) a (omega (arith, k.low m j)) (k.lead n h) (k.lead m j) (same_back x))
     one n m h j x (inr a) (inl c) = absurd (k.apart (part made m) (part made n) c (omega (arith, k.low n h)) (k.lead m j) (k.lead n h) x)
     one n m h j x (inr a) (inr c) = omega arith

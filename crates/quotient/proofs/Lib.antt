@@ -5,11 +5,15 @@ mod Sames
 mod Chains
 mod Zeros
 mod Groups
+mod Takings
+mod Returns
 mod Rounds
+mod Firsts
 mod Ranks
 mod Members
 mod Putting
 mod Writing
 mod Merging
+mod Lent
 mod Calls
 mod Answered

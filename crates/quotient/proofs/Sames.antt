@@ -70,11 +70,11 @@ module _ (g : Game) (parts : List ℕ) where
   greatest_same : (f : ℕ → ℕ) (n m : ℕ) → Same g parts n m → greatest (λ k. f (part parts k)) (moves g n) ≡ greatest (λ k. f (part parts k)) (moves g m)
   greatest_same f n m s = omega (arith, greatest_into f n m s.there, greatest_into f m n s.back)
 
-  pub same_bucket : (n m : ℕ) → Same g parts n m → bucket g parts n ≡ bucket g parts m
-  same_bucket n m s =
+  pub same_bucket : (many n m : ℕ) → Same g parts n m → bucket g parts many n ≡ bucket g parts many m
+  same_bucket many n m s =
       let a = s.one_part in
       let b = s.weighs in
       let c = greatest_same (λ q. q) n m s in
       let d = greatest_same (λ q. 16384 - q) n m s in
-      ap (λ (x : ℕ). x % length g) (let e : 31 * part parts n + 1021 * weight g n + 65599 * greatest (part parts) (moves g n) + 257 * greatest (λ k. 16384 - part parts k) (moves g n)
+      ap (λ (x : ℕ). x % many) (let e : 31 * part parts n + 1021 * weight g n + 65599 * greatest (part parts) (moves g n) + 257 * greatest (λ k. 16384 - part parts k) (moves g n)
       ≡ 31 * part parts m + 1021 * weight g m + 65599 * greatest (part parts) (moves g m) + 257 * greatest (λ k. 16384 - part parts k) (moves g m) = omega arith in e)

@@ -8,9 +8,9 @@ use Rattle.endless.specs.View.{words_of}
 use Rattle.endless.proofs.Among.{at_among}
 use Rattle.endless.proofs.Places.{to_place, ok_size}
 use Rattle.quotient.specs.Gathering.{Into, Gathered, Nothing}
-use Rattle.quotient.specs.Refining.{part, Parted, Leads}
+use Rattle.quotient.specs.Refining.{part, InParts, Leads}
 
-module _ {g : Game} {parts : List ℕ} {words : ℕ} (parted : Parted g parts words) (n : ℕ) {ms : List ℕ} (ms-are : ms ≡ moves g n) where
+module _ {g : Game} {parts : List ℕ} {words : ℕ} (parted : InParts g parts words) (n : ℕ) {ms : List ℕ} (ms-are : ms ≡ moves g n) where
   pub move_below : (k : ℕ) → k < length ms → get_or ms k 0 < length g
   move_below k h = to_place parted.playable n (get_or ms k 0) (subst (Among (get_or ms k 0)) ms-are (at_among ms k h))
 
@@ -18,7 +18,7 @@ module _ {g : Game} {parts : List ℕ} {words : ℕ} (parted : Parted g parts wo
   move_place k h = omega (arith, move_below k h, parted.long)
 
   pub part_below : (k : ℕ) → k < length ms → part parts (get_or ms k 0) < length g
-  part_below k h = omega (arith, move_below k h, parted.low (get_or ms k 0) (move_below k h))
+  part_below k h = parted.below (get_or ms k 0) (move_below k h)
 
   pub part_small : (k : ℕ) → k < length ms → part parts (get_or ms k 0) < 16384
   part_small k h = omega (arith, part_below k h, (ok_size (words_of g) g parted.playable).1)

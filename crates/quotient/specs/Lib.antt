@@ -3,6 +3,7 @@ pub mod Alike
 pub mod Says
 pub mod Gathering
 pub mod Refining
+pub mod Rounds
 pub mod Numbering
 pub mod Writing
 pub mod Promises

@@ -4,7 +4,7 @@ ghost use Rattle.endless.specs.Sets.{In};
 ghost use Rattle.endless.specs.Bits.{members};
 ghost use Rattle.endless.specs.Graph.{moves};
 ghost use Rattle.quotient.specs.Gathering.{Into, Nothing};
-ghost use Rattle.quotient.specs.Refining.{Leads, Same, Parted};
+ghost use Rattle.quotient.specs.Refining.{Leads, Same, InParts};
 
 use crate::gather::{gather, release};
 use endless::bits;
@@ -30,7 +30,7 @@ fn all_within(moves: &[u32], parts: &[u32], set: &[u32]) -> bool
 fn leads(places: &Places, parts: &[u32], place: u32, other: u32, set: &mut [u32]) -> bool
     requires place { place < length places.now }
     requires other { other < length places.now }
-    requires parted { Parted places.now parts.now (length set.old) }
+    requires parted { InParts places.now parts.now (length set.old) }
     requires empty { Nothing set.old }
     ensures leads { (result ≡ true) ↔ Leads places.now parts.now place other }
     ensures empty { Nothing set.new }
@@ -53,7 +53,7 @@ pub(crate) fn is_same(
 ) -> bool
     requires place { place < length places.now }
     requires other { other < length places.now }
-    requires parted { Parted places.now parts.now (length set.old) }
+    requires parted { InParts places.now parts.now (length set.old) }
     requires empty { Nothing set.old }
     ensures same { (result ≡ true) ↔ Same places.now parts.now place other }
     ensures empty { Nothing set.new }

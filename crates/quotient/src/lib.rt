@@ -3,9 +3,11 @@
 
 mod alike;
 mod gather;
+mod group;
 pub mod merged;
 mod number;
 mod refine;
+mod round;
 pub mod smaller;
 mod write;
 

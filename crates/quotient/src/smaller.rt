@@ -48,14 +48,22 @@ fn merge_game(accepted: Accepted, to: &mut [u32], smaller: &mut [u32]) -> usize
         rest,
         ..
     } = layout::lay_out(accepted);
-    let places = graph.places();
     let count = graph.len() as usize;
+    let (told, rest) = rest.split_at_mut(count);
     let (parts, rest) = rest.split_at_mut(count);
+    let (sizes, rest) = rest.split_at_mut(count + 1);
+    let (fresh, rest) = rest.split_at_mut(count);
+    let (list, rest) = rest.split_at_mut(count);
     let (made, rest) = rest.split_at_mut(count);
     let (heads, rest) = rest.split_at_mut(count);
-    let (links, _) = rest.split_at_mut(count);
+    let (links, rest) = rest.split_at_mut(count);
+    let (out, _) = rest.split_at_mut(all.len());
     bits::clear(all);
-    settle(places, parts, made, heads, links, all);
-    let count = number(places, parts, to);
-    write(places, parts, to, count, all, smaller)
+    bits::clear(out);
+    settle(
+        &graph, told, parts, sizes, fresh, list, made, heads, links, all, out,
+    );
+    let places = graph.places();
+    let count = number(places, told, to);
+    write(places, told, to, count, all, smaller)
 }

@@ -1,6 +1,6 @@
 use Rattle.std.proofs.Common.{◌≡◌, ◌-◌, drop, max}
 use Rattle.quotient.specs.Refining.{part, greatest}
-use Rattle.quotient.proofs.refine.span.Given as goal
+use Rattle.quotient.proofs.group.span.Given as goal
 
 abbrev pub invariant-loop-to : goal.invariant-loop-to
 invariant-loop-to l = record {

@@ -1,0 +1,111 @@
+//! Places put into groups, of those that the parts do not tell apart.
+ghost use Rattle.std.specs.Prelude.{◌≡◌, ℕ, ◌-◌, ◌*◌, ◌<◌, ◌≤◌, length, slice_index, MatchOption};
+ghost use Rattle.endless.specs.Graph.{moves};
+ghost use Rattle.quotient.specs.Gathering.{Nothing};
+ghost use Rattle.quotient.specs.Refining.{part, InParts, Same, greatest, bucket, Linked, Descends, Grouped};
+
+use crate::alike::is_same;
+use endless::graph::Places;
+
+/// The greatest and the least part that these moves lead into, the least as
+/// what is left of 16,384.
+fn span(moves: &[u32], parts: &[u32]) -> (u32, u32)
+    requires places { (k : ℕ) → k < length moves.now → slice_index moves.now k < length parts.now }
+    requires low { (k : ℕ) → k < length moves.now → slice_index parts.now (slice_index moves.now k) < 16384 }
+    ensures greatest { result.0 ≡ greatest (part parts.now) moves.now }
+    ensures least { result.1 ≡ greatest (λ m. 16384 - part parts.now m) moves.now }
+{
+    let mut greatest = 0;
+    let mut least = 0;
+    for to in moves {
+        let part = parts[*to as usize];
+        greatest = part.max(greatest);
+        least = (16384 - part).max(least);
+    }
+    (greatest, least)
+}
+
+/// Where to look for the part of a place, of so many buckets: where to look for
+/// that of each place that the parts do not tell apart from it.
+fn bucket(places: &Places, parts: &[u32], many: usize, place: u32) -> usize
+    requires place { place < length places.now }
+    requires parted { (words : ℕ) × InParts places.now parts.now words }
+    requires some { 0 < many }
+    ensures is { result ≡ bucket places.now parts.now many place }
+    ensures below { result < many }
+{
+    // Any factors would do: these keep numbers below 16,384 apart well enough.
+    let (greatest, least) = span(places.moves(place), parts);
+    let part = parts[place as usize] as usize;
+    let weight = places.weight(place) as usize;
+    (31 * part + 1021 * weight + 65599 * greatest as usize + 257 * least as usize) % many
+}
+
+/// The place of a chain, told by where it stands in the list, from which the
+/// parts do not tell this place apart.
+fn find(
+    places: &Places,
+    parts: &[u32],
+    list: &[u32],
+    place: u32,
+    start: u32,
+    links: &[u32],
+    set: &mut [u32],
+) -> Option<u32>
+    requires place { place < length places.now }
+    requires list { (j : ℕ) → j < length list.now → slice_index list.now j < length places.now }
+    requires parted { InParts places.now parts.now (length set.old) }
+    requires links { length list.now ≤ length links.now }
+    requires start { start ≤ length list.now }
+    requires descends { Descends links.now }
+    requires empty { Nothing set.old }
+    ensures found { MatchOption result ((l : ℕ) → Linked links.now start l → Same places.now parts.now place (slice_index list.now l) → ⊥) (λ l. Linked links.now start l × Same places.now parts.now place (slice_index list.now l)) }
+    ensures empty { Nothing set.new }
+{
+    let mut link = start;
+    while link != 0 {
+        let lead = link - 1;
+        if is_same(places, parts, place, list[lead as usize], set) {
+            return Some(lead);
+        }
+        link = links[lead as usize];
+    }
+    None
+}
+
+/// Puts the places of a list into groups, of those that the parts do not tell
+/// apart: writes for each where the first of its group stands in the list.
+pub(crate) fn group(
+    places: &Places,
+    parts: &[u32],
+    list: &[u32],
+    made: &mut [u32],
+    heads: &mut [u32],
+    links: &mut [u32],
+    set: &mut [u32],
+)
+    requires parted { InParts places.now parts.now (length set.old) }
+    requires list { (j : ℕ) → j < length list.now → slice_index list.now j < length places.now }
+    requires few { length list.now ≤ length places.now }
+    requires made { length made.old ≡ length list.now }
+    requires heads { length heads.old ≡ length list.now }
+    requires links { length links.old ≡ length list.now }
+    requires empty { Nothing set.old }
+    ensures grouped { Grouped places.now parts.now list.now made.new }
+    ensures empty { Nothing set.new }
+{
+    heads.fill(0);
+    links.fill(0);
+    for i in 0..list.len() {
+        let bucket = bucket(places, parts, list.len(), list[i]);
+        let start = heads[bucket];
+        match find(places, parts, list, list[i], start, links, set) {
+            Some(lead) => made[i] = lead,
+            None => {
+                made[i] = i as u32;
+                links[i] = start;
+                heads[bucket] = i as u32 + 1;
+            }
+        }
+    }
+}
