@@ -1,6 +1,5 @@
 //! Places parted in rounds, until no part is new.
-ghost use Rattle.std.specs.Prelude.{◌≡◌, ℕ, ◌*◌, ◌<◌, ◌≤◌, length, slice_index};
-ghost use Rattle.endless.specs.View.{Playable};
+ghost use Rattle.std.specs.Prelude.{◌≡◌, ℕ, ◌*◌, ◌^◌, ◌<◌, ◌≤◌, length, slice_index};
 ghost use Rattle.quotient.specs.Gathering.{Nothing};
 ghost use Rattle.quotient.specs.Refining.{part, Parted, Sound, Stable};
 ghost use Rattle.quotient.specs.Rounds.{Firsts, ByFirst};
@@ -10,7 +9,7 @@ use endless::graph::Graph;
 
 /// Writes for each part its first place.
 fn find_firsts(parts: &[u32], firsts: &mut [u32])
-    requires few { length parts.now < 4294967296 }
+    requires few { length parts.now < 2 ^ 32 }
     requires below { (n : ℕ) → n < length parts.now → part parts.now n < length firsts.old }
     ensures { Firsts parts.now firsts.new }
 {
@@ -31,8 +30,9 @@ fn tell_by_first(parts: &[u32], firsts: &[u32], told: &mut [u32])
 }
 
 /// Parts the places by side, weight and the parts that they may move into,
-/// until no part is parted. A part is told by its first place. The words of
-/// `sizes` and those behind it are lent, one more than there are places.
+/// until no part is new, and writes the first place of its part for each to
+/// `told`. All else is lent, of `sizes` one word more than there are places;
+/// the two sets are empty before, and `set` after.
 pub(crate) fn settle(
     graph: &Graph,
     told: &mut [u32],
