@@ -1,20 +1,22 @@
 -- The parts of the lent words: they fit, and the first level has its room.
-use Rattle.std.proofs.Common.{◌≡◌, ℕ, ◌+◌, ◌*◌, ◌≤◌, T, ltb, List, length, sym, ap, subst, mul-le-mul_right, add-mul, arith, ltb→lt, lt→ltb}
+use Rattle.std.proofs.Common.{◌≡◌, ℕ, ◌+◌, ◌*◌, ◌<◌, ◌≤◌, T, ltb, List, length, sym, ap, subst, mul-le-mul_right, add-mul, arith, ltb→lt, lt→ltb}
+use Rattle.std.proofs.lemmas.Bool.{lt-ltb}
 use Rattle.endless.specs.Games.{Game, Reads}
 use Rattle.endless.specs.Says.{side, goes}
-use Rattle.endless.specs.Sets.{Within, whole}
+use Rattle.endless.specs.Sets.{In, Within, whole}
 use Rattle.endless.specs.Subgames.{Subgame, Solves}
-use Rattle.endless.specs.Bits.{members}
+use Rattle.endless.specs.Bits.{members, size}
 use Rattle.endless.specs.Graph.{edges}
 use Rattle.endless.specs.Weights.{occurs, kinds}
 use Rattle.endless.specs.declared.desk.Desk.{Desk}
 use Rattle.endless.specs.Levels.{Room}
-use Rattle.endless.specs.Layout.{width, lent_for, LentIsEnough, LaidOut, Fresh}
+use Rattle.endless.specs.Layout.{width, lent_for, LentIsEnough, LaidOut, Fits}
 use Rattle.endless.specs.View.{words_of, Playable}
 use Rattle.endless.specs.declared.layout.Layout.{Layout}
+use Rattle.endless.proofs.Tests.{true_T}
 use Rattle.endless.proofs.Places.{ok_size, weight_below}
 use Rattle.endless.proofs.Sets.{whole_in, whole_place}
-use Rattle.endless.proofs.CountLaws.{count_le}
+use Rattle.endless.proofs.CountLaws.{count_le, count_sub, count_below}
 use Rattle.endless.proofs.Preds.{words_length}
 use Rattle.endless.proofs.Steps.{whole_subgame, subgame_as}
 use Rattle.endless.proofs.Turns.{solves_same}
@@ -37,29 +39,23 @@ module _ (g : Game) (own : List ℕ) (are : (j : ℕ) → members own j ≡ ltb 
 pub laid_graph : {lent : ℕ} {g : Game} (r : Layout) → LaidOut lent g r → LaidOut lent r.graph r
 laid_graph {lent} r laid = subst (λ (h : Game). LaidOut lent h r) (sym laid.is) laid
 
--- what is laid out is enough to begin with
-pub laid_fresh : {lent : ℕ} {g : Game} (r : Layout) (desk : Desk) → Playable g → LaidOut lent g r → 2 * length g ≤ length desk.out.now → desk.queue.now ≡ r.queue.now → desk.escapes.now ≡ r.escapes.now → Fresh g r.all.now desk
-laid_fresh {g} r desk reads laid answers q e =
-    let most = (ok_size _ g reads).1 in
-    let w : 32 * width (length g) ≤ length g + 31 = omega arith in
-    record {
-      are = laid.are;
-      many = laid.many;
-      sized = record { sets = omega (arith, laid.wide); answers = answers; cursors = rw e laid.escapes };
-      queues = rw q laid.queue;
-      small = omega (arith, laid.wide);
-    }
+-- a set of places has no more of them than there are
+inside_size : (set : List ℕ) (k : ℕ) → k ≤ 32 * length set → ((n : ℕ) → In (members set) n → n < k) → size set ≤ k
+unfolding size
+inside_size set k room inside = omega (arith, count_sub (members set) (λ j. ltb j k) (32 * length set) (λ j l e. lt-ltb j k (inside j (true_T _ e))), count_below k (32 * length set) room)
 
 -- and the first level has its room
-pub first_room : {lent : ℕ} {g : Game} (r : Layout) (sets : List ℕ) (desk : Desk) → Playable g → LaidOut lent g r → 2 * length g ≤ length desk.out.now → desk.queue.now ≡ r.queue.now → desk.escapes.now ≡ r.escapes.now → length sets ≡ kinds g * length r.all.now → Room g 256 r.all.now sets desk
-first_room {g} r sets desk reads laid answers q e long =
-    let f = laid_fresh r desk reads laid answers q e in
+pub first_room : {g : Game} {set queue escapes rest : List ℕ} (sets : List ℕ) (desk : Desk) → Playable g → Fits g queue escapes set rest → Subgame g (members set) → 2 * length g ≤ length desk.out.now → desk.queue.now ≡ queue → desk.escapes.now ≡ escapes → length sets ≡ kinds g * length set → Room g 256 set sets desk
+first_room {g} {set} sets desk reads fits sub answers q e long =
+    let most = (ok_size _ g reads).1 in
+    let w : 32 * width (length g) ≤ length g + 31 = omega arith in
+    let holds : length g ≤ 32 * length set = omega (arith, fits.wide) in
     record {
-      subgame = filled_subgame g r.all.now laid.are reads;
+      subgame = sub;
       light = λ n x. weight_below reads n;
-      sized = f.sized;
-      queues = omega (arith, f.many, f.queues);
-      small = f.small;
+      sized = record { sets = holds; answers = answers; cursors = rw e fits.cursors };
+      queues = omega (arith, inside_size set (length g) holds sub.places, ap length q, fits.queues);
+      small = omega (arith, fits.wide);
       sets = omega (arith, long);
     }
 

@@ -2,7 +2,7 @@
 use Rattle.std.specs.Prelude.{◌≡◌, ℕ, ◌+◌, ◌*◌, ◌/◌, ◌^◌, ◌<◌, ◌≤◌, List, length, nat_lt, Ok, Err, Result}
 use Rattle.endless.specs.Games.{Game, Reads, weight}
 use Rattle.endless.specs.Graph.{edges}
-use Rattle.endless.specs.View.{words_of}
+use Rattle.endless.specs.View.{words_of, Playable}
 use Rattle.endless.specs.Bits.{members, size}
 use Rattle.endless.specs.Weights.{kinds}
 use Rattle.endless.specs.Pulling.{Sized}
@@ -39,6 +39,7 @@ OutRoomIs n given (Err e) = (e.needed ≡ 2 * n) × (e.given ≡ given) × (give
 -- a game is laid out in so many lent words: its graph, room for its queue and its cursors, the set of all places, and room for a set for each level; these parts take what is needed, and no more
 pub record LaidOut (lent : ℕ) (g : Game) (r : Layout) : Type 0 where
   pub is : r.graph ≡ g
+  pub playable : Playable g
   pub taken : needed (length g) (edges g) 0 + length r.rest.now ≡ lent
   pub queue : length g ≤ length r.queue.now
   pub escapes : length g ≤ length r.escapes.now
@@ -47,6 +48,13 @@ pub record LaidOut (lent : ℕ) (g : Game) (r : Layout) : Type 0 where
   pub wide : length r.all.now ≡ width (length g)
   pub rest : kinds g * width (length g) ≤ length r.rest.now
   pub spare : 2 * width (length g) + (length g + 1) ≤ length r.rest.now
+
+-- what a game was laid out in has room to solve it within a set of its places: a queue and cursors for its places, this set, and a set for each level
+pub record Fits (g : Game) (queue escapes set rest : List ℕ) : Type 0 where
+  pub queues : length g ≤ length queue
+  pub cursors : length g ≤ length escapes
+  pub wide : length set ≡ width (length g)
+  pub sets : kinds g * width (length g) ≤ length rest
 
 -- a game to begin with: the set of all its places, and room for them in an answer, a queue and the cursors
 pub record Fresh (g : Game) (all : List ℕ) (desk : Desk) : Type 0 where

@@ -1,10 +1,13 @@
 //! The lent words, cut into the parts that the solver works in.
 ghost use Rattle.std.specs.Prelude.{◌≡◌, ℕ, ◌+◌, ◌*◌, ◌<◌, ◌≤◌, length, nat_le};
 ghost use Rattle.endless.specs.Says.{side, goes};
-ghost use Rattle.endless.specs.Sets.{whole};
-ghost use Rattle.endless.specs.Subgames.{Solves};
+ghost use Rattle.endless.specs.Sets.{Out, whole};
+ghost use Rattle.endless.specs.Subgames.{Subgame, Solves};
+ghost use Rattle.endless.specs.Bits.{members};
 ghost use Rattle.endless.specs.Pulling.{Unchanged};
-ghost use Rattle.endless.specs.Layout.{OutRoomIs, LaidOut};
+ghost use Rattle.endless.specs.Weights.{kinds};
+ghost use Rattle.endless.specs.View.{Playable};
+ghost use Rattle.endless.specs.Layout.{width, OutRoomIs, LaidOut, Fits};
 ghost use Rattle.endless.specs.Accepting.{Accepts};
 
 use crate::accepted::Accepted;
@@ -92,38 +95,68 @@ pub fn lay_out<'a>(accepted: Accepted<'a>) -> Layout<'a>
     }
 }
 
-/// Solves a game: lays it out, with a set for each level, and goes through
-/// these.
+impl Layout<'_> {
+    /// Solves the game within the places in `all`: cuts a set for each of the
+    /// game's levels, and goes through these.
+    fn solve(self, levels: usize, out: &mut [u32])
+        requires levels { levels ≡ kinds self.graph }
+        requires fits { Fits self.graph self.queue.now self.escapes.now self.all.now self.rest.now }
+        requires playable { Playable self.graph }
+        requires subgame { Subgame self.graph (members self.all.now) }
+        requires out { 2 * length self.graph ≤ length out.old }
+        ensures frame { (n : ℕ) → Out (members self.entry.all.now) n → Unchanged out.old out.new n }
+        ensures solves { Solves self.entry.graph (members self.entry.all.now) (side out.new) (goes out.new) }
+    {
+        let Layout {
+            graph,
+            queue,
+            escapes,
+            all,
+            rest,
+        } = self;
+        let (sets, spare) = rest.split_at_mut(levels * all.len());
+        let many = bits::count(all);
+        let mut effort = Effort::new(many);
+        let mut desk = Desk {
+            out,
+            queue,
+            escapes,
+        };
+        level_by_parts(
+            &graph,
+            256,
+            many as usize,
+            all,
+            None,
+            sets,
+            spare,
+            &mut desk,
+            &mut effort,
+        );
+    }
+}
+
+/// Solves a game: lays it out, and goes through its levels.
 pub(crate) fn solve_game(accepted: Accepted, out: &mut [u32])
     requires out { 2 * length accepted.game ≤ length out.old }
     ensures frame { (n : ℕ) → length accepted.entry.game ≤ n → Unchanged out.old out.new n }
     ensures solves { Solves accepted.entry.game (whole accepted.entry.game) (side out.new) (goes out.new) }
 {
     let levels = weights::levels(&accepted.game);
-    let Layout {
-        graph,
-        queue,
-        escapes,
-        all,
-        rest,
-    } = lay_out(accepted);
-    let (sets, spare) = rest.split_at_mut(levels * all.len());
-    let places = graph.len();
-    let mut effort = Effort::new(places);
-    let mut desk = Desk {
-        out,
-        queue,
-        escapes,
-    };
-    level_by_parts(
-        &graph,
-        256,
-        places as usize,
-        all,
-        None,
-        sets,
-        spare,
-        &mut desk,
-        &mut effort,
-    );
+    lay_out(accepted).solve(levels, out);
+}
+
+/// Solves a game within a set of its places, each of which has a move into the
+/// set: as if there were no others. Of the answer nothing else is changed.
+pub fn solve_within(accepted: Accepted, set: &[u32], out: &mut [u32])
+    requires wide { length set.now ≡ width (length accepted.game) }
+    requires subgame { Subgame accepted.game (members set.now) }
+    requires out { 2 * length accepted.game ≤ length out.old }
+    ensures frame { (n : ℕ) → Out (members set.now) n → Unchanged out.old out.new n }
+    ensures solves { Solves accepted.entry.game (members set.now) (side out.new) (goes out.new) }
+{
+    let levels = weights::levels(&accepted.game);
+    let mut layout = lay_out(accepted);
+    bits::copy(set, &mut *layout.all);
+    layout.solve(levels, out);
 }

@@ -9,6 +9,7 @@ returns c =
     let many = c.len.ensures.len ∙ ap length is in
     record {
       is = is;
+      playable = c.len-places.ensures.playable;
       taken = omega (arith, c.move_count-moves.ensures, c.div_ceil.ensures);
       queue = omega arith;
       escapes = omega arith;
