@@ -4,7 +4,7 @@ pub mod Unique
 mod Exclusive
 pub mod Places
 pub mod Pigeonhole
-mod Sets
+pub mod Sets
 mod Plays
 mod Rounds
 mod Plans
@@ -12,11 +12,11 @@ mod Heads
 mod Heaviest
 mod Shifting
 mod Within
-mod Steps
+pub mod Steps
 mod Attractors
 mod Attracting
 mod Determinacy
-mod Only
+pub mod Only
 mod Cases
 pub mod Theorems
 pub mod Readers

@@ -1,14 +1,16 @@
 -- Two plans against one another, one for each side: the play by both comes again to where it was, and goes round from there.
-use Rattle.std.proofs.Common.{◌≡◌, ℕ, zero, suc, ◌+◌, ◌-◌, ◌%◌, ◌<◌, ◌≤◌, T, eqb, ◌⊎◌, length, sym, refl, ap, ◌∙◌, subst, inl, inr, add-suc, arith, eqb→eq}
+use Rattle.std.proofs.Common.{◌≡◌, ℕ, zero, suc, ◌+◌, ◌-◌, ◌%◌, ◌<◌, ◌≤◌, T, eqb, ◌⊎◌, List, length, sym, refl, ap, ◌∙◌, subst, inl, inr, add-suc, arith, eqb→eq}
 use Rattle.std.proofs.lemmas.Bool.{cases_eq, cases_lt}
 use Rattle.endless.specs.Games.{Game, whose, weight, May, Play, Plays, ByPlan, Heaviest, other}
-use Rattle.endless.specs.Says.{heaviest, OneWins, WinnerWins}
+use Rattle.endless.specs.Says.{Round, heaviest, OneWins, WinnerWins}
+use Rattle.endless.specs.Sets.{Each}
 use Rattle.endless.proofs.Tests.{from_eq}
 use Rattle.endless.proofs.Places.{from_place, to_place, side_below, is_other, not_other}
 use Rattle.endless.proofs.Pigeonhole.{pigeonhole}
 use Rattle.endless.proofs.Sets.{merge, merge_in, merge_out}
-use Rattle.endless.proofs.Plays.{front, from, front_each, front_some, back_round}
+use Rattle.endless.proofs.Plays.{front, from, front_in, front_each, front_some, back_round}
 use Rattle.endless.proofs.Rounds.{rounds_are_won}
+use Rattle.endless.proofs.Within.{first_of}
 
 -- where one goes by two plans
 turn : Game → ℕ → (ℕ → ℕ) → (ℕ → ℕ) → ℕ → ℕ
@@ -106,20 +108,27 @@ led_other g w a b n l i e = turn_other g w a b (led (turn g w a b) n i) (λ d. n
 pub comes_back : (g : Game) (f : Play) → Plays g f → (i : ℕ) × (j : ℕ) × (i < j) × (f i ≡ f j)
 comes_back g f p = let t = pigeonhole (length g) f (λ i l. from_place g (f i) (f (suc i)) (p i)) in (t.0, t.1, t.2, t.4)
 
+-- places from which two plans, one for each side, may be gone by and stay among them: if each side's rounds there by its plan were of its kind, the round by both would be of both kinds
+pub never_both : (g : Game) (w : ℕ) (a b : ℕ → ℕ) (in_both : ℕ → Type 0) (n : ℕ) → w < 2 → in_both n → ((m : ℕ) → in_both m → whose g m ≡ w → May g m (a m) × in_both (a m)) → ((m : ℕ) → in_both m → (whose g m ≡ w → ⊥) → May g m (b m) × in_both (b m)) →
+    ((m : ℕ) (ns : List ℕ) → Each in_both ns → Round g w a m ns m → heaviest g ns % 2 ≡ w) → ((m : ℕ) (ns : List ℕ) → Each in_both ns → Round g (other w) b m ns m → heaviest g ns % 2 ≡ other w) → ⊥
+never_both g w a b in_both n l start own others one two =
+    let f = led (turn g w a b) n in
+    let p = led_plays g w a b in_both n start own others in
+    let t = comes_back g f p in
+    let ns = front (from t.0 f) (t.1 - suc t.0) in
+    let all = front_in in_both (t.1 - suc t.0) (from t.0 f) (λ i. led_in g w a b in_both n start own others (t.0 + i)) in
+    not_other w (heaviest g ns % 2) l (one (f t.0) ns all (back_round g w a f t.0 t.1 p (led_own g w a b n) t.2 t.3)) (two (f t.0) ns all (back_round g (other w) b f t.0 t.1 p (led_other g w a b n l) t.2 t.3))
+
 pub one_wins : OneWins
 one_wins s g a b u v n r wa wb x y =
-    let f = led (turn g 0 a b) n in
-    let own : (m : ℕ) → T (u m) × T (v m) → whose g m ≡ 0 → May g m (a m) × (T (u (a m)) × T (v (a m))) = λ m z e.
-    let t = wa.may m z.0 e in (t.0, (t.1, wb.held m (a m) z.1 (λ d. not_other 0 (whose g m) (omega arith) e d) t.0)) in
-    let others : (m : ℕ) → T (u m) × T (v m) → (whose g m ≡ 0 → ⊥) → May g m (b m) × (T (u (b m)) × T (v (b m))) = λ m z e.
-    let t = wb.may m z.1 (is_other 0 (whose g m) (omega arith) (side_below r m) e) in (t.0, (wa.held m (b m) z.0 e t.0, t.1)) in
-    let p = led_plays g 0 a b (λ m. T (u m) × T (v m)) n (x, y) own others in
-    let t = comes_back g f p in
-    let z = led_in g 0 a b (λ m. T (u m) × T (v m)) n (x, y) own others t.0 in
-    let ns = front (from t.0 f) (t.1 - suc t.0) in
-    let even : heaviest g ns % 2 ≡ 0 = rounds_are_won s g 0 a u (f t.0) ns r (omega arith) wa z.0 (back_round g 0 a f t.0 t.1 p (led_own g 0 a b n) t.2 t.3) in
-    let odd : heaviest g ns % 2 ≡ 1 = rounds_are_won s g 1 b v (f t.0) ns r (omega arith) wb z.1 (back_round g 1 b f t.0 t.1 p (led_other g 0 a b n (omega arith)) t.2 t.3) in
-    omega arith
+    never_both g 0 a b in_both n (omega arith) (x, y)
+    (λ m z e. let t = wa.may m z.0 e in (t.0, (t.1, wb.held m (a m) z.1 (λ d. not_other 0 (whose g m) (omega arith) e d) t.0)))
+    (λ m z e. let t = wb.may m z.1 (is_other 0 (whose g m) (omega arith) (side_below r m) e) in (t.0, (wa.held m (b m) z.0 e t.0, t.1)))
+    (λ m ns z c. rounds_are_won s g 0 a u m ns r (omega arith) wa (first_of g 0 a in_both m ns m c z).0 c)
+    (λ m ns z c. rounds_are_won s g 1 b v m ns r (omega arith) wb (first_of g 1 b in_both m ns m c z).1 c)
+  where
+    in_both : ℕ → Type 0
+    in_both m = T (u m) × T (v m)
 
 pub winner_wins : WinnerWins
 winner_wins s g w plan reply won n r l wins legal h x =

@@ -3,12 +3,17 @@ use Rattle.std.proofs.Common.{◌≡◌, ℕ, zero, suc, ◌+◌, ◌-◌, ◌%�
 use Rattle.std.proofs.lemmas.Bool.{cases_eq, cases_lt}
 use Rattle.endless.specs.Games.{Game, whose, weight, May, Play, Plays, ByPlan, Heaviest}
 use Rattle.endless.specs.Says.{Round, last, then1, heaviest, RoundsWin, WeaklyHeaviest}
+use Rattle.endless.specs.Sets.{Each}
 use Rattle.endless.proofs.Places.{from_place, not_other}
 
 -- the places of a play from its start, one more than d of them
 abbrev pub front : Play → ℕ → List ℕ
 front f zero = f 0 ∷ []
 front f (suc d) = f 0 ∷ front (λ i. f (suc i)) d
+
+pub front_in : (P : ℕ → Type 0) (d : ℕ) (f : Play) → ((i : ℕ) → P (f i)) → Each P (front f d)
+front_in P zero f h = (h 0, tt)
+front_in P (suc d) f h = (h 0, front_in P d (λ i. f (suc i)) (λ i. h (suc i)))
 
 pub front_round : (g : Game) (w : ℕ) (plan : ℕ → ℕ) (d : ℕ) (f : Play) → Plays g f → ByPlan g w plan f → Round g w plan (f 0) (front f d) (f (suc d))
 front_round g w plan zero f p b = last (p 0) (b 0)

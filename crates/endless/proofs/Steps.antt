@@ -227,13 +227,22 @@ holds_wins {s} {g} {w} {X} {plan} r l h = rounds_win s g w plan X r l h.may (λ 
         step : Steps g w plan (λ m. Unit {0}) (λ n m. In X n → In X m)
         step n m p q a b y = dominion_step plan (λ m. In (whole g) m) (λ n x e. refl) h (λ n x. x) n m (h.within n y) (whole_in g m (to_place r n m a)) a b y
 
-pub wins_holds : {s : List ℕ} {g : Game} {w : ℕ} {X : Set} {plan : ℕ → ℕ} → Reads s g → w < 2 → Within X (whole g) → WinsFrom g w plan (λ n. In X n) → Holds g (whole g) X w plan
-wins_holds {s} {g} {w} {X} {plan} r l u wins = record {
+pub wins_holds : {s : List ℕ} {g : Game} {w : ℕ} {U X : Set} {plan : ℕ → ℕ} → Reads s g → w < 2 → Within X U → WinsFrom g w plan (λ n. In X n) → Holds g U X w plan
+wins_holds {s} {g} {w} {U} {X} {plan} r l u wins = record {
   within = u;
   may = wins.may;
   held = λ n m x d a v. wins.held n m x d a;
   rounds = λ n ns x c. rounds_are_won s g w plan X n ns r l wins (first_of g w plan (In X) n ns n c x) c;
 }
+
+-- so is a dominion in places that the other side cannot leave
+pub trapped_wins : {s : List ℕ} {g : Game} {w : ℕ} {U X : Set} {plan : ℕ → ℕ} → Reads s g → w < 2 → ((n : ℕ) → In U n → n < length g) → ((n m : ℕ) → In U n → (whose g n ≡ w → ⊥) → May g n m → In U m) → Holds g U X w plan → WinsFrom g w plan (λ n. In X n)
+trapped_wins {s} {g} {w} {U} {X} {plan} r l places stays h = holds_wins r l (record {
+  within = λ n x. whole_in g n (places n (h.within n x));
+  may = h.may;
+  held = λ n m x d a u. h.held n m x d a (stays n m (h.within n x) d a);
+  rounds = h.rounds;
+})
 
 -- a plan wins from the same places, told otherwise
 pub wins_as : (g : Game) (w : ℕ) (plan : ℕ → ℕ) (P Q : ℕ → Type 0) → ((n : ℕ) → P n → Q n) → ((n : ℕ) → Q n → P n) → WinsFrom g w plan P → WinsFrom g w plan Q

@@ -86,7 +86,7 @@ fn first_sideless(answer: &[u32], places: u32) -> Option<u32>
 }
 
 /// Makes the set the places that the answer gives to `side`.
-fn gather_given(answer: &[u32], side: Side, places: u32, set: &mut [u32])
+pub fn gather_given(answer: &[u32], side: Side, places: u32, set: &mut [u32])
     requires { places ≤ 32 * length set.old }
     ensures { (j : ℕ) → (In (members set.new) j ↔ ((j < places) × (says answer.now j ≡ number side))) }
 {

@@ -1,29 +1,25 @@
--- A move is tried in the game in which its place has it alone: the side that wins the place makes it by some winning plan exactly where it still wins that place, and the plan found there is one.
-use Rattle.std.proofs.Common.{◌≡◌, ℕ, zero, suc, ◌+◌, ◌-◌, ◌<◌, Bool, true, false, cond, ◌&&◌, T, ltb, eqb, ◌⊎◌, List, length, sym, refl, ap, ◌∙◌, subst, inl, inr, add-suc, arith, lt→ltb, ltb→lt, eqb→eq}
-use Rattle.std.proofs.lemmas.Bool.{cases_eq, eq-eqb}
+-- A move is tried in the game in which its place has it alone, within the places that the side wins that wins its place: the side makes it by some winning plan exactly where it still wins that place, and the plan found there is one.
+use Rattle.std.proofs.Common.{◌≡◌, ℕ, zero, suc, ◌+◌, ◌-◌, ◌<◌, ◌↔◌, Bool, true, false, cond, T, ◌⊎◌, List, length, sym, refl, ap, ◌∙◌, subst, inl, inr, add-suc, arith}
+use Rattle.std.proofs.lemmas.Bool.{cases_eq}
 use Rattle.endless.specs.Games.{Game, Reads, whose, weight, May, Play, Plays, ByPlan, Wins, other}
 use Rattle.endless.specs.Says.{WinsFrom, side, goes}
 use Rattle.endless.specs.View.{words_of}
 use Rattle.endless.specs.Checked.{IsAnswer}
-use Rattle.endless.proofs.Places.{from_place, to_place}
-use Rattle.endless.proofs.Tests.{both as both-of}
-use Rattle.endless.proofs.Theorems.{further}
+use Rattle.endless.specs.Sets.{Set, In, having}
+use Rattle.endless.specs.Subgames.{Subgame, Solves}
+use Rattle.endless.proofs.Places.{from_place, to_place, has_move}
+use Rattle.endless.proofs.Sets.{having_in, having_within}
+use Rattle.endless.proofs.Steps.{wins_as, trapped_wins}
+use Rattle.endless.proofs.Only.{all_given}
 use Rattle.moves.specs.Alone.{alone}
 use Rattle.moves.specs.Moves.{Given, WinningMove}
-use Rattle.moves.proofs.Alone.{length_alone, whose_alone, weight_alone, may_else, may_still, may_here, here_may, from_both, reads_alone}
+use Rattle.moves.proofs.Alone.{length_alone, whose_alone, weight_alone, may_else, may_still, may_here, here_may, reads_alone}
 
 -- ---- plans that win, told otherwise
 
-pub wins_as : {g : Game} {w : ℕ} {plan : ℕ → ℕ} (P Q : ℕ → Type 0) → ((n : ℕ) → P n → Q n) → ((n : ℕ) → Q n → P n) → WinsFrom g w plan P → WinsFrom g w plan Q
-wins_as {g} {w} {plan} P Q to fro wins = record {
-  may = λ n x e. let t = wins.may n (fro n x) e in (t.0, to (plan n) t.1);
-  held = λ n m x d a. to m (wins.held n m (fro n x) d a);
-  not_lost = λ f x. wins.not_lost f (fro (f 0) x);
-}
-
 -- from as many places, given as they are by another list of sides
 pub given_as : {g : Game} {w : ℕ} {plan : ℕ → ℕ} (h : Game) (a b : ℕ → ℕ) → length h ≡ length g → ((n : ℕ) → n < length g → a n ≡ b n) → WinsFrom g w plan (Given h a w) → WinsFrom g w plan (Given g b w)
-given_as {g} {w} {plan} h a b e same = wins_as (Given h a w) (Given g b w)
+given_as {g} {w} {plan} h a b e same = wins_as g w plan (Given h a w) (Given g b w)
     (λ n t. let l : n < length g = omega (arith, e, t.0) in (l, sym (same n l) ∙ t.1))
     (λ n t. (omega (arith, e, t.0), same n t.0 ∙ t.1))
 
@@ -163,78 +159,68 @@ module _ {s : List ℕ} {g : Game} (reads : Reads s g) (n m : ℕ) (may-move : M
 
 -- ---- by answers
 
-given : Game → (ℕ → ℕ) → ℕ → ℕ → Bool
-given g sides w n = ltb n (length g) && eqb (sides n) w
-
-given_in : (g : Game) (sides : ℕ → ℕ) (w n : ℕ) → Given g sides w n → T (given g sides w n)
-unfolding given
-given_in g sides w n t = from_both (ltb n (length g)) (eqb (sides n) w) (lt→ltb n (length g) t.0) (subst T (sym (eq-eqb (sides n) w t.1)) tt)
-
-given_is : (g : Game) (sides : ℕ → ℕ) (w n : ℕ) → T (given g sides w n) → Given g sides w n
-unfolding given
-given_is g sides w n t = let u = both-of (ltb n (length g)) (eqb (sides n) w) t in (ltb→lt n (length g) u.0, eqb→eq (sides n) w u.1)
-
 pub answer_wins : {g : Game} {o : List ℕ} → IsAnswer g o → (w : ℕ) → w < 2 → WinsFrom g w (goes o) (Given g (side o) w)
 answer_wins answer zero l = answer.wins_0
 answer_wins answer (suc zero) l = answer.wins_1
 answer_wins answer (suc (suc w)) l = absurd (omega arith)
 
--- whatever wins for a side wins places of its own
-its_own : {s : List ℕ} {g : Game} {o : List ℕ} → Reads s g → IsAnswer g o → {w : ℕ} {plan : ℕ → ℕ} (won : ℕ → Bool) → w < 2 → WinsFrom g w plan (λ j. T (won j)) → (n : ℕ) → n < length g → T (won n) → side o n ≡ w
-its_own {s} {g} {o} r answer {w} {plan} won l wins n h x = further.only_answer s g (side o) (goes o) (goes o) w plan won n r answer.one_of_two answer.wins_0 answer.wins_1 l wins h x
+-- U are the places that the side wins that wins n, and m is one of them
+module _ {s : List ℕ} {g : Game} (reads : Reads s g) {o : List ℕ} (answer : IsAnswer g o) (n m : ℕ) (may-move : May g n m) (stays : side o m ≡ side o n) (U : Set) (are : (j : ℕ) → (In U j ↔ Given g (side o) (side o n) j)) where
+  abbrev w : ℕ
+  w = side o n
 
-module _ {s : List ℕ} {g : Game} (reads : Reads s g) {o : List ℕ} (answer : IsAnswer g o) (n m : ℕ) (may-move : May g n m) {p : List ℕ} (tried : IsAnswer (alone g n m) p) where
   place : n < length g
   place = from_place g n m may-move
+
+  two : w < 2
+  two = answer.one_of_two n place
 
   reads-alone : Reads (words_of (alone g n m)) (alone g n m)
   reads-alone = reads_alone reads n m (to_place reads n m may-move)
 
-  abbrev w : ℕ
-  w = side o n
+  as-before : WinsFrom g w (goes o) (λ j. In U j)
+  as-before = wins_as g w (goes o) (Given g (side o) w) (λ j. In U j) (λ j. (are j).1) (λ j. (are j).0) (answer_wins answer w two)
 
-  -- the places that it wins there
-  abbrev some : ℕ → Bool
-  some = given (alone g n m) (side p) w
+  inside : (j : ℕ) → In U j → j < length (alone g n m)
+  inside j x = omega (arith, ((are j).0 x).0, length_alone g n m)
 
-  -- the side does not win the place any more: no winning plan makes the move
-  pub makes_none : (side p n ≡ side o n → ⊥) → WinningMove g (side o) n m → ⊥
-  makes_none d x =
-      d (its_own reads-alone tried (given g (side o) w) (answer.one_of_two n place)
-      (wins_as (Given g (side o) w) (λ j. T (given g (side o) w j)) (given_in g (side o) w) (given_is g (side o) w) (to_alone reads n m may-move x.makes x.wins))
-      n (omega (arith, place, length_alone g n m)) (given_in g (side o) w n (place, refl)))
-
-  -- it wins the place still: the plan wins from all the side's places as the moves were, and makes this one
-  pub makes_one : whose g n ≡ side o n → side p n ≡ side o n → WinsFrom g (side o n) (goes p) (Given g (side o) (side o n)) × (goes p n ≡ m)
-  makes_one turn wins = (wins_as (λ j. T (some j)) (Given g (side o) w) within back all-moves, makes_it reads n m may-move turn here one-move)
+  -- with the one move alone too, each of them has a move to one of them
+  pub alone_subgame : Subgame (alone g n m) U
+  alone_subgame = record { places = inside; goes_on = λ j x. on j x (cases_eq j n) (cases_eq (whose g j) w) }
     where
-      two : w < 2
-      two = answer.one_of_two n place
+      on : (j : ℕ) → In U j → (j ≡ n) ⊎ (j ≡ n → ⊥) → (whose g j ≡ w) ⊎ (whose g j ≡ w → ⊥) → (k : ℕ) × May (alone g n m) j k × In U k
+      on j x (inl e) t = (m, subst (λ (i : ℕ). May (alone g n m) i m) (sym e) (here_may g n m m may-move), (are m).1 (to_place reads n m may-move, stays))
+      on j x (inr d) (inl e) = let t = as-before.may j x e in (goes o j, may_still g n m j (goes o j) d t.0, t.1)
+      on j x (inr d) (inr f) = let t = has_move reads j ((are j).0 x).0 in (t.0, may_still g n m j t.0 d t.1, as-before.held j t.0 x f t.1)
 
-      one-move : WinsFrom (alone g n m) w (goes p) (λ j. T (some j))
-      one-move = wins_as (Given (alone g n m) (side p) w) (λ j. T (some j)) (given_in (alone g n m) (side p) w) (given_is (alone g n m) (side p) w) (answer_wins tried w two)
+  module _ (p : List ℕ) (tried : Solves (alone g n m) U (side p) (goes p)) where
+    -- whatever plan wins from all of them there, the side wins them all
+    won_there : {plan : ℕ → ℕ} → WinsFrom (alone g n m) w plan (λ j. In U j) → (j : ℕ) → In U j → side p j ≡ w
+    won_there = all_given reads-alone tried two
 
-      here : T (some n)
-      here = given_in (alone g n m) (side p) w n (omega (arith, place, length_alone g n m), wins)
+    -- the side does not win the place any more: no winning plan makes the move
+    pub makes_none : (side p n ≡ side o n → ⊥) → WinningMove g (side o) n m → ⊥
+    makes_none d x = d (won_there (to_alone reads n m may-move x.makes (wins_as g w x.plan (Given g (side o) w) (λ j. In U j) (λ j. (are j).1) (λ j. (are j).0) x.wins)) n ((are n).1 (place, refl)))
 
-      all-moves : WinsFrom g w (goes p) (λ j. T (some j))
-      all-moves = from_alone reads n m may-move turn here one-move
+    -- it wins the place still: the plan wins from all the side's places as the moves were, and makes this one
+    pub makes_one : whose g n ≡ side o n → side p n ≡ side o n → WinsFrom g (side o n) (goes p) (Given g (side o) (side o n)) × (goes p n ≡ m)
+    makes_one turn wins = (wins_as g w (goes p) (λ j. In some j) (Given g (side o) w) (λ j x. (are j).0 (within j x)) back (from_alone reads n m may-move turn here one-move), makes_it reads n m may-move turn here one-move)
+      where
+        -- the places that it wins there
+        some : Set
+        some = having U (side p) w
 
-      within : (j : ℕ) → T (some j) → Given g (side o) w j
-      within j x = let l : j < length g = below j x in (l, its_own reads answer some two all-moves j l x)
-        where
-          below : (j : ℕ) → T (some j) → j < length g
-          below j x = omega (arith, (given_is (alone g n m) (side p) w j x).0, length_alone g n m)
+        within : (j : ℕ) → In some j → In U j
+        within = having_within U (side p) w
 
-      back : (j : ℕ) → Given g (side o) w j → T (some j)
-      back j x =
-          let l : j < length (alone g n m) = omega (arith, x.0, length_alone g n m) in
-          given_in (alone g n m) (side p) w j (
-            l,
-            its_own reads-alone tried (given g (side o) w) two
-                (wins_as (Given g (side o) w) (λ j. T (given g (side o) w j)) (given_in g (side o) w) (given_is g (side o) w) (together reads n m may-move some here turn within one-move (answer_wins answer w two)))
-                j l (given_in g (side o) w j x),
-          )
+        here : In some n
+        here = having_in U (side p) w n ((are n).1 (place, refl)) wins
+
+        one-move : WinsFrom (alone g n m) w (goes p) (λ j. In some j)
+        one-move = trapped_wins reads-alone two inside (λ j k x d a. as-before.held j k x (λ e. d (whose_alone g n m j ∙ e)) (may_in reads n m may-move j k a)) (tried.won w two)
+
+        back : (j : ℕ) → Given g (side o) w j → In some j
+        back j t = let x = (are j).1 t in having_in U (side p) w j x (won_there (together reads n m may-move some here turn within one-move as-before) j x)
 
 -- a winning move stays in the side's places
 pub makes_within : {g : Game} {sides : ℕ → ℕ} {n m : ℕ} → n < length g → WinningMove g sides n m → sides m ≡ sides n

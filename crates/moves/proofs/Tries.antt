@@ -1,9 +1,12 @@
 -- One move after the other is tried, those of a place, and those of all places.
-use Rattle.std.proofs.Common.{◌≡◌, ℕ, ◌+◌, ◌-◌, ◌*◌, ◌<◌, ◌≤◌, List, ◌++◌, length, take, drop, replicate, sym, refl, ap, ◌∙◌, subst, arith}
+use Rattle.std.proofs.Common.{◌≡◌, ℕ, ◌+◌, ◌-◌, ◌*◌, ◌<◌, ◌≤◌, ◌↔◌, List, ◌++◌, length, take, drop, replicate, sym, refl, ap, ◌∙◌, subst, arith}
 use Rattle.endless.specs.Games.{Game, Reads, whose, May}
 use Rattle.endless.specs.Says.{WinsFrom, side, goes}
 use Rattle.endless.specs.Graph.{edges, moves}
 use Rattle.endless.specs.View.{words_of}
+use Rattle.endless.specs.Sets.{In}
+use Rattle.endless.specs.Subgames.{Subgame, Solves}
+use Rattle.endless.specs.Bits.{members}
 use Rattle.endless.specs.Checked.{IsAnswer}
 use Rattle.endless.proofs.Places.{to_place}
 use Rattle.moves.specs.Alone.{alone}
@@ -15,7 +18,7 @@ use Rattle.moves.specs.declared.solved.Solved.{Solved}
 use Rattle.moves.specs.declared.trying.Trying.{Trying}
 use Rattle.moves.proofs.Alone.{reads_alone}
 use Rattle.moves.proofs.Lists.{before_more, before_most, before_all, origin_at, step_may, words_alone}
-use Rattle.moves.proofs.Trials.{makes_none, makes_one, makes_within}
+use Rattle.moves.proofs.Trials.{alone_subgame, makes_none, makes_one, makes_within}
 use Rattle.moves.proofs.Avoiding.{avoids_winning}
 use Rattle.moves.proofs.Marks.{noted_makes, marking_plan, marking_more}
 
@@ -54,18 +57,26 @@ module _ {s : List ℕ} {g : Game} (reads : Reads s g) {n first k : ℕ} (place 
     pub step_leaves : (a : List ℕ) → (whose g n ≡ side a n → side a m ≡ side a n → ⊥) → WinningMove g (side a) (origin g k) (target g k) → ⊥
     step_leaves a d x = let y = there a x in d y.turn (makes_within place y)
 
-    module _ {a : List ℕ} (answer : IsAnswer g a) {p : List ℕ} (tried : IsAnswer (alone g n m) p) where
-      pub step_fails : (side p n ≡ side a n → ⊥) → WinningMove g (side a) (origin g k) (target g k) → ⊥
-      step_fails d x = makes_none reads answer n m step_move tried d (there a x)
+    -- the set has the places that its side wins
+    module _ {a : List ℕ} (answer : IsAnswer g a) {w places : ℕ} (won : side a n ≡ w) (stays : side a m ≡ side a n) (places_are : places ≡ length g) (set : List ℕ) (given : (j : ℕ) → (In (members set) j ↔ ((j < places) × (side a j ≡ w)))) where
+      step_given : (j : ℕ) → (In (members set) j ↔ Given g (side a) (side a n) j)
+      step_given j = (λ x. let t = (given j).0 x in (omega (arith, t.0, places_are), t.1 ∙ sym won), λ t. (given j).1 (omega (arith, t.0, places_are), t.1 ∙ won))
 
-      pub step_wins : {w : ℕ} {before-all o o' : List ℕ} → side a n ≡ w → whose g n ≡ w → side p n ≡ w → Marking g (side a) before-all k o → Noted g (side a) w (goes p) (edges g) o o' → Marking g (side a) before-all (k + 1) o'
-      step_wins {w} {before-all} {o} {o'} won turn wins marking noted =
-          let t = makes_one reads answer n m step_move tried (turn ∙ sym won) (wins ∙ sym won) in
-          let plan : WinsFrom g w (goes p) (Given g (side a) w) = subst (λ (v : ℕ). WinsFrom g v (goes p) (Given g (side a) v)) won t.0 in
-          let inside : k ≤ edges g = omega (arith, step_inside) in
-          let here : Makes g (side a) w (goes p) n m = record { won = won; turn = turn; makes = t.1 } in
-          let these : Makes g (side a) w (goes p) (origin g k) (target g k) = subst (Makes g (side a) w (goes p) (origin g k)) to_is (subst (λ (j : ℕ). Makes g (side a) w (goes p) j m) (sym step_origin) here) in
-          marking_more (marking_plan marking plan inside noted) (λ x. noted_makes step_inside noted these)
+      pub step_subgame : Subgame (alone g n m) (members set)
+      step_subgame = alone_subgame reads answer n m step_move stays (members set) step_given
+
+      module _ (p : List ℕ) (tried : Solves (alone g n m) (members set) (side p) (goes p)) where
+        pub step_fails : (side p n ≡ side a n → ⊥) → WinningMove g (side a) (origin g k) (target g k) → ⊥
+        step_fails d x = makes_none reads answer n m step_move stays (members set) step_given p tried d (there a x)
+
+        pub step_wins : {before-all o o' : List ℕ} → whose g n ≡ w → side p n ≡ w → Marking g (side a) before-all k o → Noted g (side a) w (goes p) (edges g) o o' → Marking g (side a) before-all (k + 1) o'
+        step_wins {before-all} {o} {o'} turn wins marking noted =
+            let t = makes_one reads answer n m step_move stays (members set) step_given p tried (turn ∙ sym won) (wins ∙ sym won) in
+            let plan : WinsFrom g w (goes p) (Given g (side a) w) = subst (λ (v : ℕ). WinsFrom g v (goes p) (Given g (side a) v)) won t.0 in
+            let inside : k ≤ edges g = omega (arith, step_inside) in
+            let here : Makes g (side a) w (goes p) n m = record { won = won; turn = turn; makes = t.1 } in
+            let these : Makes g (side a) w (goes p) (origin g k) (target g k) = subst (Makes g (side a) w (goes p) (origin g k)) to_is (subst (λ (j : ℕ). Makes g (side a) w (goes p) j m) (sym step_origin) here) in
+            marking_more (marking_plan marking plan inside noted) (λ x. noted_makes step_inside noted these)
 
 -- ---- one after the other
 

@@ -5,7 +5,6 @@ use Rattle.endless.specs.Graph.{edges}
 use Rattle.endless.specs.Says.{side}
 use Rattle.endless.specs.View.{words_of}
 use Rattle.endless.specs.Layout.{width}
-use Rattle.endless.specs.Checked.{IsAnswer}
 use Rattle.endless.specs.Sides.{number}
 use Rattle.endless.specs.declared.answer.Winner.{Winner}
 use Rattle.moves.specs.Moves.{origin, target, WinningMove, winner, mark, room}
@@ -48,6 +47,7 @@ pub record Begun (g : Game) (sides : ℕ → ℕ) (first o : List ℕ) : Type 0 
 pub record Roomy (g : Game) (all out part queue made tried work : List ℕ) : Type 0 where
   pub marks : room g ≤ length out
   pub parts : length part ≡ length all
+  pub wide : length all ≡ width (length g)
   pub queues : length g ≤ length queue
   pub words : length made ≡ length (words_of g)
   pub answers : 2 * length g ≤ length tried
@@ -62,6 +62,6 @@ StaysIs g sides n m None = whose g n ≡ sides n → sides m ≡ sides n → ⊥
 abbrev pub lent_for_tries : Game → ℕ
 lent_for_tries g = 65536 + 6 * length (words_of g) + 5 * length g + 2 * width (length g)
 
--- all moves are seen to, where an answer to the game is known
+-- all moves are seen to
 abbrev pub TriedAll : Game → List ℕ → List ℕ → List ℕ → Type 0
-TriedAll g a o o' = (first : List ℕ) → IsAnswer g a → Marking g (side a) first 0 o → Marking g (side a) first (edges g) o'
+TriedAll g a o o' = (first : List ℕ) → Marking g (side a) first 0 o → Marking g (side a) first (edges g) o'

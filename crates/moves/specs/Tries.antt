@@ -2,13 +2,12 @@
 use Rattle.std.specs.Prelude.{◌≡◌, ℕ, ◌+◌, List}
 use Rattle.endless.specs.Says.{side}
 use Rattle.endless.specs.Graph.{edges}
-use Rattle.endless.specs.Checked.{IsAnswer}
 use Rattle.moves.specs.Marking.{before, Marking}
 use Rattle.moves.specs.declared.trying.Trying.{Trying}
 
--- the game is solved, and the first k moves are seen to
+-- the first k moves are seen to
 abbrev pub Going : Trying → List ℕ → ℕ → Type 0
-Going t first k = IsAnswer t.solved.places.now t.solved.answer.now × Marking t.solved.places.now (side t.solved.answer.now) first k t.out.now
+Going t first k = Marking t.solved.places.now (side t.solved.answer.now) first k t.out.now
 
 -- the solved game stays, and what the work is written to
 pub record Same (a b : Trying) : Type 0 where

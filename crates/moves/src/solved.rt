@@ -4,15 +4,21 @@ ghost use Rattle.endless.specs.Games.{Game, Reads};
 ghost use Rattle.endless.specs.Says.{side as won-by, goes};
 ghost use Rattle.endless.specs.Graph.{edges};
 ghost use Rattle.endless.specs.Sides.{number};
+ghost use Rattle.endless.specs.Subgames.{Subgame, Solves};
+ghost use Rattle.endless.specs.Bits.{members};
+ghost use Rattle.endless.specs.Layout.{width};
 ghost use Rattle.endless.specs.View.{words_of};
 ghost use Rattle.endless.specs.Checked.{IsAnswer};
 ghost use Rattle.moves.specs.Moves.{origins, targets, origin, target, winner, room};
 ghost use Rattle.moves.specs.Led.{leads};
 ghost use Rattle.moves.specs.Marking.{Makes, Noted, StaysIs};
 
+use endless::accepted::Accepted;
 use endless::answer::{PlaceId, Winner, won_by};
 use endless::graph::Places;
+use endless::layout::solve_within;
 use endless::side::Side;
+use endless::words::GameWords;
 
 /// Solves words that are known to be a game, where enough are lent: nothing
 /// is refused.
@@ -22,6 +28,17 @@ pub fn answer_to(words: &[u32], answer: &mut [u32], work: &mut [u32])
     ensures { (g : Game) → Reads words.now g → IsAnswer g answer.new }
 {
     endless::solve(words, answer, work).unwrap();
+}
+
+/// Solves a game within a set of its places: words that are known to be a game,
+/// where enough are lent.
+pub fn answer_within(words: &[u32], set: &[u32], answer: &mut [u32], work: &mut [u32])
+    requires game { (g : Game) × Reads words.now g × (2 * length g ≤ length answer.old) × (length set.now ≡ width (length g)) × Subgame g (members set.now) }
+    requires lent { 65536 + 4 * length words.now ≤ length work.old }
+    ensures { (g : Game) → Reads words.now g → Solves g (members set.now) (won-by answer.new) (goes answer.new) }
+{
+    let game = GameWords::known(words);
+    solve_within(Accepted { game, work }, set, answer);
 }
 
 /// Writes for each place who wins it, and for each move no mark.

@@ -7,10 +7,11 @@ ghost use Rattle.moves.specs.Led.{led as led-game};
 ghost use Rattle.moves.specs.Marking.{before, lent_for_tries, TriedAll, Roomy};
 
 use crate::led::{Led, lead};
-use crate::solved::{Solved, answer_to};
+use crate::solved::{Solved, answer_within};
 use endless::answer::{PlaceId, won_by};
 use endless::bits;
 use endless::graph::Places;
+use endless::verdict::gather_given;
 use endless::words::GameWords;
 
 /// Makes the words of the game in which a place has the move to `to` alone:
@@ -47,6 +48,7 @@ impl Trying<'_, '_> {
     /// Tries the move with index `k`, where it has no mark: one of `place`,
     /// whose first move has index `first`.
     fn try_move(&mut self, place: u32, first: usize, k: usize)
+        requires answer { IsAnswer self.old.solved.places.now self.old.solved.answer.now }
         requires place { place < length self.old.solved.places.now }
         requires first { first ≡ before self.old.solved.places.now place }
         requires low { first ≤ k }
@@ -76,7 +78,8 @@ impl Trying<'_, '_> {
         let tried = &mut *self.tried;
         let work = &mut *self.work;
         leave_one(solved.words, at, count, to, made);
-        answer_to(made, tried, work);
+        gather_given(solved.answer, winner.0, solved.places.len(), part);
+        answer_within(made, part, tried, work);
         if won_by(tried, PlaceId(place)) == Some(winner) {
             let out = &mut *self.out;
             solved.mark_plan(winner.0, tried, out);
@@ -86,6 +89,7 @@ impl Trying<'_, '_> {
     /// Tries the moves of `place` that have no mark: the first has index
     /// `first`.
     fn try_place(&mut self, place: u32, first: usize)
+        requires answer { IsAnswer self.old.solved.places.now self.old.solved.answer.now }
         requires place { place < length self.old.solved.places.now }
         requires first { first ≡ before self.old.solved.places.now place }
         ensures same { Same self.old self.new }
@@ -99,6 +103,7 @@ impl Trying<'_, '_> {
 
     /// Tries all moves that have no mark, one place after the other.
     fn try_all(&mut self)
+        requires answer { IsAnswer self.old.solved.places.now self.old.solved.answer.now }
         ensures same { Same self.old self.new }
         ensures tries { TriesAll self.old self.new }
     {
@@ -124,6 +129,7 @@ struct Bench<'r> {
 
 /// Tries all moves of a solved game that have no mark.
 fn try_led(solved: Solved, led: Led, out: &mut [u32], bench: Bench)
+    requires answer { IsAnswer solved.places.now solved.answer.now }
     requires led { led.places.now ≡ led-game solved.places.now solved.answer.now (length solved.places.now) }
     requires roomy { Roomy solved.places.now led.all.now out.old bench.part.now bench.queue.now bench.made.now bench.tried.now bench.work.now }
     ensures { TriedAll solved.entry.places.now solved.entry.answer.now out.old out.new }
