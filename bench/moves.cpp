@@ -39,6 +39,41 @@ struct Tried {
   }
 };
 
+// The places that a side wins as a game: these alone, in their order, with the moves among them.
+struct Part {
+  const Solve &solve;
+  Words words{0}, kept;
+  std::vector<uint32_t> number, answer;  // of each place, where it is one of them, which it is; an answer to the game
+  std::vector<size_t> first, end;        // where in its words the moves of each of them stand
+
+  Part(const Words &game, const uint32_t *winner, uint32_t side, const Solve &solve) : solve(solve), number(game[0]), answer(2 * game[0]) {
+    for (uint32_t v = 0; v < game[0]; v++)
+      if (winner[v] == side) number[v] = words[0]++;
+    size_t at = 1;
+    for (uint32_t v = 0; v < game[0]; v++) {
+      const size_t head = at;
+      at += 3 + game[head + 2];
+      if (winner[v] != side) continue;
+      words.insert(words.end(), {game[head], game[head + 1], 0});
+      first.push_back(words.size());
+      for (size_t i = head + 3; i < at; i++)
+        if (winner[game[i]] == side) words.push_back(number[game[i]]);
+      end.push_back(words.size());
+      words[first.back() - 1] = uint32_t(end.back() - first.back());
+    }
+  }
+  // Who wins its place where it has this move alone.
+  uint32_t alone(const Move &move) {
+    const uint32_t v = number[move.from];
+    const auto from = words.begin() + first[v], to = words.begin() + end[v];
+    kept.assign(from, to);
+    std::fill(from, to, number[move.to]);
+    solve(words, answer.data());
+    std::copy(kept.begin(), kept.end(), from);
+    return answer[2 * v];
+  }
+};
+
 // The game in which each place whose side wins it has its plan's move alone: does a play come from one place to another?
 struct Led {
   std::vector<std::vector<uint32_t>> to;
@@ -68,24 +103,26 @@ struct Led {
 Trials winning_moves(const Words &words, const Solve &solve, uint32_t *out) {
   const uint32_t n = words[0];
   const Listed g = list(words);
-  Tried tried(words, solve);
-  solve(words, tried.answer.data());
-  Led led(g, tried.answer);
+  std::vector<uint32_t> answer(2 * n);
+  solve(words, answer.data());
+  Led led(g, answer);
   uint32_t *marks = out + n;
-  for (uint32_t v = 0; v < n; v++) out[v] = tried.answer[2 * v];
+  for (uint32_t v = 0; v < n; v++) out[v] = answer[2 * v];
   for (size_t k = 0; k < g.moves.size(); k++) marks[k] = 0;
-  auto mark_plan = [&](uint32_t side) {
+  auto mark_plan = [&](uint32_t side, auto makes) {
     uint32_t marked = 0;
     for (size_t k = 0; k < g.moves.size(); k++) {
       const Move &m = g.moves[k];
-      if (marks[k] == 1 || out[m.from] != side || g.whose[m.from] != side || tried.answer[2 * m.from + 1] != m.to) continue;
+      if (marks[k] == 1 || out[m.from] != side || g.whose[m.from] != side || !makes(m)) continue;
       marks[k] = 1;
       marked++;
     }
     return marked;
   };
+  auto by_first = [&](const Move &m) { return answer[2 * m.from + 1] == m.to; };
+  Part parts[2] = {{words, out, 0, solve}, {words, out, 1, solve}};
   Trials trials;
-  trials.first = mark_plan(0) + mark_plan(1);
+  trials.first = mark_plan(0, by_first) + mark_plan(1, by_first);
   for (size_t k = 0; k < g.moves.size(); k++) {
     const Move &m = g.moves[k];
     const uint32_t side = out[m.from];
@@ -96,8 +133,9 @@ Trials winning_moves(const Words &words, const Solve &solve, uint32_t *out) {
       continue;
     }
     trials.games++;
-    tried.alone(m);
-    if (tried.answer[2 * m.from] == side) trials.later += mark_plan(side);
+    Part &part = parts[side];
+    auto by_part = [&](const Move &other) { return out[other.to] == side && part.answer[2 * part.number[other.from] + 1] == part.number[other.to]; };
+    if (part.alone(m) == side) trials.later += mark_plan(side, by_part);
   }
   return trials;
 }

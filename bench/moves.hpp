@@ -15,8 +15,8 @@ struct Trials {
 
 // By the library's rule, with any solver: the moves of the first answer's plans are marked; then each move without a
 // mark that stays in what its place's side wins is tried. If no play that goes by that side's plan comes back to the
-// place from where the move leads, it is marked. Else the game in which its place has it alone is solved, and if the
-// side wins the place there, the moves of its plan are marked. `out` has a word a place and a word a move.
+// place from where the move leads, it is marked. Else the game in which its place has it alone is solved within what the
+// side wins, and if it wins the place there, the moves of its plan are marked. `out` has a word a place and a word a move.
 Trials winning_moves(const Words &words, const Solve &solve, uint32_t *out);
 
 // "" where no fault is found, else what is wrong. Every place's winner is looked at, and every mark of a move that its

@@ -65,7 +65,7 @@ here_may g n m x a = subst (Among m) (sym (moves_here g n m)) (among_one (moves 
 
 -- ---- it is a game
 
-pub from_both : (a b : Bool) → T a → T b → T (a && b)
+from_both : (a b : Bool) → T a → T b → T (a && b)
 from_both true b t u = u
 from_both false b t u = t
 

@@ -30,9 +30,11 @@ use trying::try_moves;
 ///
 /// A move that no plan found so far makes is tried. Where no play by the first
 /// plan comes back from where it leads, the plan with this move wins. Else the
-/// game in which its place has it alone is solved, and its plan makes one move
-/// at each place. So the time is that of solving the game once, and once more
-/// for each move that is neither made by a plan found before nor avoided so.
+/// game in which its place has it alone is solved within the places that its
+/// side wins, and the plan found makes one move at each of these. So the time is
+/// that of solving the game once, and for each move that is neither made by a
+/// plan found before nor avoided so, that of a pass over the game's words and of
+/// solving it within these places.
 pub fn winning_moves(words: &[u32], out: &mut [u32], work: &mut [u32]) -> Result<(), Refusal>
     ensures { MovesPost words.now (length work.old) out.old out.new result }
 {
