@@ -2,7 +2,7 @@
 use Rattle.std.proofs.Common.{◌≡◌, ℕ, ◌+◌, ◌*◌, ◌<◌, ◌≤◌, ◌⊎◌, ◌↔◌, List, length, get_or, set, eqb, sym, refl, ap, ◌∙◌, subst, inl, inr, arith}
 use Rattle.std.proofs.lemmas.List.{get_or-set_same, get_or-set_other}
 use Rattle.std.specs.Bool.{IsTrue}
-use Rattle.std.proofs.lemmas.Bool.{cases_eq, eq-eqb, eqb-true}
+use Rattle.std.proofs.lemmas.Bool.{cases_eq, cases_lt, eq-eqb, eqb-true}
 use Rattle.endless.proofs.Working.{goes_at, side_at}
 use Rattle.endless.specs.Games.{Game, whose}
 use Rattle.endless.specs.Says.{WinsFrom, side, goes}
@@ -16,41 +16,41 @@ use Rattle.moves.proofs.Lists.{step_may}
 
 -- ---- the moves that a plan makes
 
-pub noted_none : (g : Game) (sides : ℕ → ℕ) (w : ℕ) (plan : ℕ → ℕ) (o : List ℕ) → Noted g sides w plan 0 o o
-noted_none g sides w plan o = record { set = λ j h. absurd (omega arith); winners = λ n h. refl; rest = λ i h. refl }
+pub noted_none : (g : Game) (sides : ℕ → ℕ) (w : ℕ) (plan : ℕ → ℕ) (i : ℕ) (o : List ℕ) → Noted g sides w plan i i o o
+noted_none g sides w plan i o = record { set = λ j l h. absurd (omega arith); front = λ j h. refl; rest = λ j h. refl }
 
-module _ {g : Game} {sides : ℕ → ℕ} {w : ℕ} {plan : ℕ → ℕ} {k : ℕ} {o p : List ℕ} (n : Noted g sides w plan k o p) where
-  noted_set : length g + k < length p → Makes g sides w plan (origin g k) (target g k) → Noted g sides w plan (k + 1) o (set p (length g + k) 1)
+module _ {g : Game} {sides : ℕ → ℕ} {w : ℕ} {plan : ℕ → ℕ} {i k : ℕ} {o p : List ℕ} (n : Noted g sides w plan i k o p) (order : i ≤ k) where
+  noted_set : length g + k < length p → Makes g sides w plan (origin g k) (target g k) → Noted g sides w plan i (k + 1) o (set p (length g + k) 1)
   noted_set inside makes = record {
-    set = λ j h. of j h (cases_eq j k);
-    winners = λ m h. get_or-set_other p (length g + k) m 1 0 (λ e. omega arith) ∙ n.winners m h;
-    rest = λ i h. get_or-set_other p (length g + k) i 1 0 (λ e. omega arith) ∙ n.rest i (omega arith);
+    set = λ j l h. of j l h (cases_eq j k);
+    front = λ j h. get_or-set_other p (length g + k) j 1 0 (λ e. omega arith) ∙ n.front j h;
+    rest = λ j h. get_or-set_other p (length g + k) j 1 0 (λ e. omega arith) ∙ n.rest j (omega arith);
   }
     where
-      of : (j : ℕ) → j < k + 1 → (j ≡ k) ⊎ (j ≡ k → ⊥) → SetIf (Makes g sides w plan (origin g j) (target g j)) (mark g o j) (mark g (set p (length g + k) 1) j)
-      of j h (inl e) = inl (
-        subst (λ (i : ℕ). Makes g sides w plan (origin g i) (target g i)) (sym e) makes,
-        ap (λ (i : ℕ). mark g (set p (length g + k) 1) i) e ∙ get_or-set_same p (length g + k) 1 0 inside,
+      of : (j : ℕ) → i ≤ j → j < k + 1 → (j ≡ k) ⊎ (j ≡ k → ⊥) → SetIf (Makes g sides w plan (origin g j) (target g j)) (mark g o j) (mark g (set p (length g + k) 1) j)
+      of j l h (inl e) = inl (
+        subst (λ (x : ℕ). Makes g sides w plan (origin g x) (target g x)) (sym e) makes,
+        ap (λ (x : ℕ). mark g (set p (length g + k) 1) x) e ∙ get_or-set_same p (length g + k) 1 0 inside,
       )
-      of j h (inr d) = subst (λ (x : ℕ). SetIf (Makes g sides w plan (origin g j) (target g j)) (mark g o j) x) (sym (get_or-set_other p (length g + k) (length g + j) 1 0 (λ e. d (omega arith)))) (n.set j (omega arith))
+      of j l h (inr d) = subst (λ (x : ℕ). SetIf (Makes g sides w plan (origin g j) (target g j)) (mark g o j) x) (sym (get_or-set_other p (length g + k) (length g + j) 1 0 (λ e. d (omega arith)))) (n.set j l (omega arith))
 
-  noted_same : (Makes g sides w plan (origin g k) (target g k) → ⊥) → Noted g sides w plan (k + 1) o p
-  noted_same none = record { set = λ j h. of j h (cases_eq j k); winners = n.winners; rest = λ i h. n.rest i (omega arith) }
+  noted_same : (Makes g sides w plan (origin g k) (target g k) → ⊥) → Noted g sides w plan i (k + 1) o p
+  noted_same none = record { set = λ j l h. of j l h (cases_eq j k); front = n.front; rest = λ j h. n.rest j (omega arith) }
     where
-      of : (j : ℕ) → j < k + 1 → (j ≡ k) ⊎ (j ≡ k → ⊥) → SetIf (Makes g sides w plan (origin g j) (target g j)) (mark g o j) (mark g p j)
-      of j h (inl e) = inr ((λ x. none (subst (λ (i : ℕ). Makes g sides w plan (origin g i) (target g i)) e x)), ap (λ (i : ℕ). mark g p i) e ∙ n.rest (length g + k) (omega arith) ∙ sym (ap (λ (i : ℕ). mark g o i) e))
-      of j h (inr d) = n.set j (omega arith)
+      of : (j : ℕ) → i ≤ j → j < k + 1 → (j ≡ k) ⊎ (j ≡ k → ⊥) → SetIf (Makes g sides w plan (origin g j) (target g j)) (mark g o j) (mark g p j)
+      of j l h (inl e) = inr ((λ x. none (subst (λ (x : ℕ). Makes g sides w plan (origin g x) (target g x)) e x)), ap (λ (x : ℕ). mark g p x) e ∙ n.rest (length g + k) (omega arith) ∙ sym (ap (λ (x : ℕ). mark g o x) e))
+      of j l h (inr d) = n.set j l (omega arith)
 
   -- one more is made by it, and marked
-  pub noted_one : length g + k < length p → Makes g sides w plan (origin g k) (target g k) → {places : ℕ} {q : List ℕ} → places ≡ length g → q ≡ set p (places + k) 1 → Noted g sides w plan (k + 1) o q
-  noted_one inside makes {places} {q} e f = subst (Noted g sides w plan (k + 1) o) (sym (f ∙ ap (λ (i : ℕ). set p (i + k) 1) e)) (noted_set inside makes)
+  pub noted_one : length g + k < length p → Makes g sides w plan (origin g k) (target g k) → {places : ℕ} {q : List ℕ} → places ≡ length g → q ≡ set p (places + k) 1 → Noted g sides w plan i (k + 1) o q
+  noted_one inside makes {places} {q} e f = subst (Noted g sides w plan i (k + 1) o) (sym (f ∙ ap (λ (x : ℕ). set p (x + k) 1) e)) (noted_set inside makes)
 
   -- or it is not
-  pub noted_not : (Makes g sides w plan (origin g k) (target g k) → ⊥) → {q : List ℕ} → q ≡ p → Noted g sides w plan (k + 1) o q
-  noted_not none {q} f = subst (Noted g sides w plan (k + 1) o) (sym f) (noted_same none)
+  pub noted_not : (Makes g sides w plan (origin g k) (target g k) → ⊥) → {q : List ℕ} → q ≡ p → Noted g sides w plan i (k + 1) o q
+  noted_not none {q} f = subst (Noted g sides w plan i (k + 1) o) (sym f) (noted_same none)
 
-  pub noted_all : k ≡ edges g → Noted g sides w plan (edges g) o p
-  noted_all e = subst (λ (i : ℕ). Noted g sides w plan i o p) e n
+pub noted_all : {g : Game} {sides : ℕ → ℕ} {w : ℕ} {plan : ℕ → ℕ} {i k : ℕ} {o p : List ℕ} → k ≡ edges g → Noted g sides w plan i k o p → Noted g sides w plan i (edges g) o p
+noted_all {g} {sides} {w} {plan} {i} {k} {o} {p} e n = subst (λ (x : ℕ). Noted g sides w plan i x o p) e n
 
 -- whether a plan makes a move at a place of its side's, by the words
 pub makes_here : {g : Game} {sides : ℕ → ℕ} {w : ℕ} (k : ℕ) {n m : ℕ} (p : List ℕ) → n ≡ origin g k → m ≡ target g k → sides n ≡ w → whose g n ≡ w → (IsTrue (eqb (get_or p (2 * n + 1) 0) m) ↔ Makes g sides w (goes p) (origin g k) (target g k))
@@ -80,30 +80,34 @@ marking_none b = record {
 }
 
 module _ {g : Game} {sides : ℕ → ℕ} {first : List ℕ} {k : ℕ} {o : List ℕ} (m : Marking g sides first k o) where
-  -- the moves of a plan that wins are marked
-  pub marking_plan : {w : ℕ} {plan : ℕ → ℕ} {p : List ℕ} → WinsFrom g w plan (Given g sides w) → k ≤ edges g → Noted g sides w plan (edges g) o p → Marking g sides first k p
-  marking_plan {w} {plan} {p} wins most n = record {
-    winners = λ i h. n.winners i h ∙ m.winners i h;
-    zero_or_one = λ j h. below j h (n.set j h);
-    sound = λ j h e. sound j h e (n.set j h);
-    complete = λ j h x. complete j h x (n.set j (omega arith));
+  -- the moves of a plan that wins are marked, of those that are not seen to
+  pub marking_plan : {w : ℕ} {plan : ℕ → ℕ} {p : List ℕ} → WinsFrom g w plan (Given g sides w) → Noted g sides w plan k (edges g) o p → Marking g sides first k p
+  marking_plan {w} {plan} {p} wins n = record {
+    winners = λ i h. n.front i (omega arith) ∙ m.winners i h;
+    zero_or_one = λ j h. below j h (cases_lt j k);
+    sound = λ j h e. sound j h e (cases_lt j k);
+    complete = λ j h x. same j h ∙ m.complete j h x;
     behind = λ i h. n.rest i h ∙ m.behind i h;
   }
     where
-      Made : ℕ → Type 0
-      Made j = SetIf (Makes g sides w plan (origin g j) (target g j)) (mark g o j) (mark g p j)
+      same : (j : ℕ) → j < k → mark g p j ≡ mark g o j
+      same j h = n.front (length g + j) (omega arith)
 
-      below : (j : ℕ) → j < edges g → Made j → mark g p j < 2
-      below j h (inl t) = omega (arith, t.1)
-      below j h (inr t) = omega (arith, t.1, m.zero_or_one j h)
+      below : (j : ℕ) → j < edges g → (j < k) ⊎ (k ≤ j) → mark g p j < 2
+      below j h (inl l) = omega (arith, same j l, m.zero_or_one j h)
+      below j h (inr l) = go (n.set j l h)
+        where
+          go : SetIf (Makes g sides w plan (origin g j) (target g j)) (mark g o j) (mark g p j) → mark g p j < 2
+          go (inl t) = omega (arith, t.1)
+          go (inr t) = omega (arith, t.1, m.zero_or_one j h)
 
-      sound : (j : ℕ) → j < edges g → mark g p j ≡ 1 → Made j → WinningMove g sides (origin g j) (target g j)
-      sound j h e (inl t) = winning wins t.0
-      sound j h e (inr t) = m.sound j h (sym t.1 ∙ e)
-
-      complete : (j : ℕ) → j < k → WinningMove g sides (origin g j) (target g j) → Made j → mark g p j ≡ 1
-      complete j h x (inl t) = t.1
-      complete j h x (inr t) = t.1 ∙ m.complete j h x
+      sound : (j : ℕ) → j < edges g → mark g p j ≡ 1 → (j < k) ⊎ (k ≤ j) → WinningMove g sides (origin g j) (target g j)
+      sound j h e (inl l) = m.sound j h (sym (same j l) ∙ e)
+      sound j h e (inr l) = go (n.set j l h)
+        where
+          go : SetIf (Makes g sides w plan (origin g j) (target g j)) (mark g o j) (mark g p j) → WinningMove g sides (origin g j) (target g j)
+          go (inl t) = winning wins t.0
+          go (inr t) = m.sound j h (sym t.1 ∙ e)
 
   -- one more is seen to: it is marked, or no winning move
   pub marking_more : (WinningMove g sides (origin g k) (target g k) → mark g o k ≡ 1) → Marking g sides first (k + 1) o
@@ -151,8 +155,8 @@ module _ {g : Game} {sides : ℕ → ℕ} {first : List ℕ} {k : ℕ} {o : List
       complete j h (inr d) y = same j d ∙ m.complete j (omega arith) y
 
 -- a mark that a plan makes
-pub noted_makes : {g : Game} {sides : ℕ → ℕ} {w : ℕ} {plan : ℕ → ℕ} {o p : List ℕ} {k : ℕ} → k < edges g → Noted g sides w plan (edges g) o p → Makes g sides w plan (origin g k) (target g k) → mark g p k ≡ 1
-noted_makes {g} {sides} {w} {plan} {o} {p} {k} h n x = go (n.set k h)
+pub noted_makes : {g : Game} {sides : ℕ → ℕ} {w : ℕ} {plan : ℕ → ℕ} {o p : List ℕ} {k : ℕ} → k < edges g → Noted g sides w plan k (edges g) o p → Makes g sides w plan (origin g k) (target g k) → mark g p k ≡ 1
+noted_makes {g} {sides} {w} {plan} {o} {p} {k} h n x = go (n.set k (omega arith) h)
   where
     go : SetIf (Makes g sides w plan (origin g k) (target g k)) (mark g o k) (mark g p k) → mark g p k ≡ 1
     go (inl t) = t.1
@@ -210,6 +214,6 @@ begun_is {g} {first} {o} a places moves e d long winners none behind = record {
 }
 
 -- and with the moves of the answer's plans
-pub marking_answer : {g : Game} {a first o p q : List ℕ} → IsAnswer g a → Begun g (side a) first o → Noted g (side a) 0 (goes a) (edges g) o p → Noted g (side a) 1 (goes a) (edges g) p q → Marking g (side a) first 0 q
+pub marking_answer : {g : Game} {a first o p q : List ℕ} → IsAnswer g a → Begun g (side a) first o → Noted g (side a) 0 (goes a) 0 (edges g) o p → Noted g (side a) 1 (goes a) 0 (edges g) p q → Marking g (side a) first 0 q
 marking_answer {g} answer begun even odd =
-    marking_plan (marking_plan (marking_none begun) answer.wins_0 (omega arith) even) answer.wins_1 (omega arith) odd
+    marking_plan (marking_plan (marking_none begun) answer.wins_0 even) answer.wins_1 odd

@@ -69,14 +69,13 @@ module _ {s : List ℕ} {g : Game} (reads : Reads s g) {n first k : ℕ} (place 
         pub step_fails : (side p n ≡ side a n → ⊥) → WinningMove g (side a) (origin g k) (target g k) → ⊥
         step_fails d x = makes_none reads answer n m step_move stays (members set) step_given p tried d (there a x)
 
-        pub step_wins : {before-all o o' : List ℕ} → whose g n ≡ w → side p n ≡ w → Marking g (side a) before-all k o → Noted g (side a) w (goes p) (edges g) o o' → Marking g (side a) before-all (k + 1) o'
+        pub step_wins : {before-all o o' : List ℕ} → whose g n ≡ w → side p n ≡ w → Marking g (side a) before-all k o → Noted g (side a) w (goes p) k (edges g) o o' → Marking g (side a) before-all (k + 1) o'
         step_wins {before-all} {o} {o'} turn wins marking noted =
             let t = makes_one reads answer n m step_move stays (members set) step_given p tried (turn ∙ sym won) (wins ∙ sym won) in
             let plan : WinsFrom g w (goes p) (Given g (side a) w) = subst (λ (v : ℕ). WinsFrom g v (goes p) (Given g (side a) v)) won t.0 in
-            let inside : k ≤ edges g = omega (arith, step_inside) in
             let here : Makes g (side a) w (goes p) n m = record { won = won; turn = turn; makes = t.1 } in
             let these : Makes g (side a) w (goes p) (origin g k) (target g k) = subst (Makes g (side a) w (goes p) (origin g k)) to_is (subst (λ (j : ℕ). Makes g (side a) w (goes p) j m) (sym step_origin) here) in
-            marking_more (marking_plan marking plan inside noted) (λ x. noted_makes step_inside noted these)
+            marking_more (marking_plan marking plan noted) (λ x. noted_makes step_inside noted these)
 
 -- ---- one after the other
 

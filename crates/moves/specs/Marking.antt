@@ -23,11 +23,11 @@ pub record Makes (g : Game) (sides : ℕ → ℕ) (w : ℕ) (plan : ℕ → ℕ)
 abbrev pub SetIf : Type 0 → ℕ → ℕ → Type 0
 SetIf P old new = (P × (new ≡ 1)) ⊎ ((P → ⊥) × (new ≡ old))
 
--- of the first k moves those are marked that a side's plan makes; nothing else changed
-pub record Noted (g : Game) (sides : ℕ → ℕ) (w : ℕ) (plan : ℕ → ℕ) (k : ℕ) (o o' : List ℕ) : Type 0 where
-  pub set : (j : ℕ) → j < k → SetIf (Makes g sides w plan (origin g j) (target g j)) (mark g o j) (mark g o' j)
-  pub winners : (n : ℕ) → n < length g → winner o' n ≡ winner o n
-  pub rest : (i : ℕ) → length g + k ≤ i → slice_index o' i ≡ slice_index o i
+-- of the moves from the one with index i on, up to the one with index k, those are marked that a side's plan makes; nothing else changed
+pub record Noted (g : Game) (sides : ℕ → ℕ) (w : ℕ) (plan : ℕ → ℕ) (i k : ℕ) (o o' : List ℕ) : Type 0 where
+  pub set : (j : ℕ) → i ≤ j → j < k → SetIf (Makes g sides w plan (origin g j) (target g j)) (mark g o j) (mark g o' j)
+  pub front : (j : ℕ) → j < length g + i → slice_index o' j ≡ slice_index o j
+  pub rest : (j : ℕ) → length g + k ≤ j → slice_index o' j ≡ slice_index o j
 
 -- the winners stand in the words, and no mark but at winning moves; of the first k moves all of these are marked; nothing changed behind
 pub record Marking (g : Game) (sides : ℕ → ℕ) (first : List ℕ) (k : ℕ) (o : List ℕ) : Type 0 where

@@ -96,8 +96,8 @@ fn mark_solved<'a>(solved: Solved<'a>, out: &mut [u32], work: &'a mut [u32])
 {
     let places = solved.places.len() as usize;
     begin(solved.answer, places, solved.from.len(), out);
-    solved.mark_plan(Side::Even, solved.answer, out);
-    solved.mark_plan(Side::Odd, solved.answer, out);
+    solved.mark_plan(Side::Even, solved.answer, 0, out);
+    solved.mark_plan(Side::Odd, solved.answer, 0, out);
     try_moves(solved, out, work);
 }
 

@@ -117,14 +117,15 @@ impl Solved<'_> {
     }
 
     /// Marks the moves that the plan of `side` makes at the places that `side`
-    /// wins.
-    pub fn mark_plan(&self, side: Side, plan: &[u32], out: &mut [u32])
+    /// wins, of those from the one with index `first` on.
+    pub fn mark_plan(&self, side: Side, plan: &[u32], first: usize, out: &mut [u32])
+        requires first { first ≤ edges self.now.places.now }
         requires plans { 2 * length self.now.places.now ≤ length plan.now }
         requires room { room self.now.places.now ≤ length out.old }
-        ensures { Noted self.now.places.now (won-by self.now.answer.now) (number side) (goes plan.now) (edges self.now.places.now) out.old out.new }
+        ensures { Noted self.now.places.now (won-by self.now.answer.now) (number side) (goes plan.now) first (edges self.now.places.now) out.old out.new }
     {
         let places = self.places.len() as usize;
-        for k in 0..self.from.len() {
+        for k in first..self.from.len() {
             if self.makes(side, plan, k) {
                 out[places + k] = 1;
             }

@@ -82,7 +82,7 @@ impl Trying<'_, '_> {
         answer_within(made, part, tried, work);
         if won_by(tried, PlaceId(place)) == Some(winner) {
             let out = &mut *self.out;
-            solved.mark_plan(winner.0, tried, out);
+            solved.mark_plan(winner.0, tried, k, out);
         }
     }
 

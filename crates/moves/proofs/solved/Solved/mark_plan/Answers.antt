@@ -13,9 +13,9 @@ bounds-out-places c = let s = c.args.self.now in omega (arith, length_origins 0 
 pub loop-k-preserved : goal.loop-k-preserved
 loop-k-preserved c =
     let s = c.args.self.now in
-    elim c.if-makes.branch [ then-makes w ↦ noted_one c.loop-k.invariant (omega (arith, length_origins 0 s.places.now, ap length s.from_are, c.requires.room)) (search rules) c.len-places.ensures.len w.out-is | else-makes w ↦ noted_not c.loop-k.invariant (search rules) w.out-is ]
+    elim c.if-makes.branch [ then-makes w ↦ noted_one c.loop-k.invariant (omega arith) (omega (arith, length_origins 0 s.places.now, ap length s.from_are, c.requires.room)) (search rules) c.len-places.ensures.len w.out-is | else-makes w ↦ noted_not c.loop-k.invariant (omega arith) (search rules) w.out-is ]
 
 pub returns : goal.returns
 returns c =
     let s = c.args.self.now in
-    noted_all c.loop-k.invariant (omega (arith, length_origins 0 s.places.now, ap length s.from_are))
+    noted_all (omega (arith, length_origins 0 s.places.now, ap length s.from_are, c.requires.first)) c.loop-k.invariant

@@ -90,6 +90,9 @@ answer_within-requires-clause-game c =
       step_subgame s.solved.reads r.place r.first r.low r.high to_is r.answer own.0 own.2 c.len.ensures.len c.gather_given.new.set c.gather_given.ensures,
     )
 
+pub mark_plan-requires-clause-first : goal.mark_plan-requires-clause-first
+mark_plan-requires-clause-first c = let s = c.args.self.now in let r = c.requires in omega (arith, step_inside s.solved.reads r.place r.first r.low r.high)
+
 pub returns-then-eq-clause-tries : goal.returns-then-eq-clause-tries
 returns-then-eq-clause-tries c = λ first m.
     let s = c.args.self.now in
