@@ -1,12 +1,12 @@
 -- Places that the parts do not tell apart: an equivalence, which places that are alike are in, and one bucket for each of its classes.
-use Rattle.std.proofs.Common.{◌≡◌, ℕ, ◌+◌, ◌-◌, ◌*◌, ◌%◌, ◌<◌, ◌≤◌, Bool, T, List, [], ◌∷◌, length, get_or, sym, refl, ap, ◌∙◌, subst, arith}
-use Rattle.endless.specs.Games.{Game, Reads, weight, Among, first, later}
+use Rattle.std.proofs.Common.{◌≡◌, ℕ, ◌%◌, ◌<◌, ◌≤◌, Bool, T, List, [], ◌∷◌, length, get_or, sym, refl, ap, ◌∙◌, subst, arith}
+use Rattle.endless.specs.Games.{Game, Reads, Among, first, later}
 use Rattle.endless.specs.Graph.{moves}
 use Rattle.endless.proofs.Among.{among_at, at_among}
 use Rattle.endless.proofs.Places.{to_place}
 use Rattle.quotient.specs.Alike.{Bisimulation}
 use Rattle.quotient.specs.Gathering.{Into}
-use Rattle.quotient.specs.Refining.{part, Leads, Same, greatest, bucket, Sound}
+use Rattle.quotient.specs.Refining.{part, Leads, Same, scattered, greatest, bucket, Sound}
 
 -- ---- a move into a part
 
@@ -74,7 +74,7 @@ module _ (g : Game) (parts : List ℕ) where
   same_bucket many n m s =
       let a = s.one_part in
       let b = s.weighs in
-      let c = greatest_same (λ q. q) n m s in
-      let d = greatest_same (λ q. 16384 - q) n m s in
-      ap (λ (x : ℕ). x % many) (let e : 31 * part parts n + 1021 * weight g n + 65599 * greatest (part parts) (moves g n) + 257 * greatest (λ k. 16384 - part parts k) (moves g n)
-      ≡ 31 * part parts m + 1021 * weight g m + 65599 * greatest (part parts) (moves g m) + 257 * greatest (λ k. 16384 - part parts k) (moves g m) = omega arith in e)
+      let c = greatest_same (scattered 40503) n m s in
+      let d = greatest_same (scattered 30011) n m s in
+      let e = greatest_same (scattered 12289) n m s in
+      ap (λ (x : ℕ). x % many) (omega arith)

@@ -1,5 +1,5 @@
 -- Places parted by side, weight and the parts that they may move into, in rounds.
-use Rattle.std.specs.Prelude.{◌≡◌, ℕ, suc, ◌+◌, ◌-◌, ◌*◌, ◌%◌, ◌<◌, ◌≤◌, Bool, T, List, [], ◌∷◌, length, slice_index}
+use Rattle.std.specs.Prelude.{◌≡◌, ℕ, suc, ◌+◌, ◌*◌, ◌%◌, ◌<◌, ◌≤◌, Bool, T, List, [], ◌∷◌, length, slice_index}
 use Rattle.endless.specs.Games.{Game, whose, weight}
 use Rattle.endless.specs.Graph.{moves}
 use Rattle.endless.specs.View.{Playable}
@@ -42,9 +42,13 @@ abbrev pub greatest : (ℕ → ℕ) → List ℕ → ℕ
 greatest f [] = 0
 greatest f (x ∷ xs) = Prim.Native.Nat.max (f x) (greatest f xs)
 
+-- the number to which a factor scatters a part
+abbrev pub scattered : ℕ → ℕ → ℕ
+scattered factor q = q * factor % 65521
+
 -- where to look for a place's part, of so many buckets: places that are not told apart are looked for in the same one
 abbrev pub bucket : Game → List ℕ → ℕ → ℕ → ℕ
-bucket g parts many n = (31 * part parts n + 1021 * weight g n + 65599 * greatest (part parts) (moves g n) + 257 * greatest (λ m. 16384 - part parts m) (moves g n)) % many
+bucket g parts many n = (31 * part parts n + 1021 * weight g n + 65599 * greatest (λ m. scattered 40503 (part parts m)) (moves g n) + 257 * greatest (λ m. scattered 30011 (part parts m)) (moves g n) + 8191 * greatest (λ m. scattered 12289 (part parts m)) (moves g n)) % many
 
 -- of the places of a list, told by where they stand in it
 abbrev pub Alike : Game → List ℕ → List ℕ → ℕ → ℕ → Type 0

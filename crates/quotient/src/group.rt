@@ -1,28 +1,25 @@
 //! Places put into groups, of those that the parts do not tell apart.
-ghost use Rattle.std.specs.Prelude.{◌≡◌, ℕ, ◌-◌, ◌*◌, ◌<◌, ◌≤◌, length, slice_index, MatchOption};
+ghost use Rattle.std.specs.Prelude.{◌≡◌, ℕ, ◌*◌, ◌<◌, ◌≤◌, length, slice_index, MatchOption};
 ghost use Rattle.endless.specs.Graph.{moves};
 ghost use Rattle.quotient.specs.Gathering.{Nothing};
-ghost use Rattle.quotient.specs.Refining.{part, InParts, Same, greatest, bucket, Linked, Descends, Grouped};
+ghost use Rattle.quotient.specs.Refining.{part, InParts, Same, scattered, greatest, bucket, Linked, Descends, Grouped};
 
 use crate::alike::is_same;
 use endless::graph::Places;
 
-/// The greatest and the least part that these moves lead into, the least as
-/// what is left of 16,384.
-fn span(moves: &[u32], parts: &[u32]) -> (u32, u32)
+/// The greatest of the numbers to which a factor scatters the parts that these
+/// moves lead into.
+fn greatest(moves: &[u32], parts: &[u32], factor: u32) -> u32
     requires places { (k : ℕ) → k < length moves.now → slice_index moves.now k < length parts.now }
     requires low { (k : ℕ) → k < length moves.now → slice_index parts.now (slice_index moves.now k) < 16384 }
-    ensures greatest { result.0 ≡ greatest (part parts.now) moves.now }
-    ensures least { result.1 ≡ greatest (λ m. 16384 - part parts.now m) moves.now }
+    requires factor { factor < 65536 }
+    ensures { result ≡ greatest (λ m. scattered factor (part parts.now m)) moves.now }
 {
     let mut greatest = 0;
-    let mut least = 0;
     for to in moves {
-        let part = parts[*to as usize];
-        greatest = part.max(greatest);
-        least = (16384 - part).max(least);
+        greatest = (parts[*to as usize] * factor % 65521).max(greatest);
     }
-    (greatest, least)
+    greatest
 }
 
 /// Where to look for the part of a place, of so many buckets: where to look for
@@ -34,11 +31,15 @@ fn bucket(places: &Places, parts: &[u32], many: usize, place: u32) -> usize
     ensures is { result ≡ bucket places.now parts.now many place }
     ensures below { result < many }
 {
-    // Any factors would do: these keep numbers below 16,384 apart well enough.
-    let (greatest, least) = span(places.moves(place), parts);
+    // Any factors would do. These scatter the parts in three ways, below a prime
+    // number, so that the greatest of all three seldom agree where not all parts do.
+    let moves = places.moves(place);
     let part = parts[place as usize] as usize;
     let weight = places.weight(place) as usize;
-    (31 * part + 1021 * weight + 65599 * greatest as usize + 257 * least as usize) % many
+    let first = greatest(moves, parts, 40503) as usize;
+    let second = greatest(moves, parts, 30011) as usize;
+    let third = greatest(moves, parts, 12289) as usize;
+    (31 * part + 1021 * weight + 65599 * first + 257 * second + 8191 * third) % many
 }
 
 /// The place of a chain, told by where it stands in the list, from which the
