@@ -1,5 +1,5 @@
 -- What a solved game says of its places, and of a step.
-use Rattle.std.specs.Prelude.{◌+◌, ◌*◌, ◌≤◌, All, IfOk, IfSome, MatchResult, Ok, Err, Result}
+use Rattle.std.specs.Prelude.{◌+◌, ◌*◌, ◌≤◌, All, IfOk, IfSome, MatchOption, MatchResult, Ok, Err, Result}
 use Rattle.std.proofs.Common.{true, ◌≡◌, ℕ, ◌<◌, List, length, get_or, Some, None, Option, sym, refl, ap, ◌∙◌, subst, arith}
 use Rattle.std.proofs.lemmas.Bool.{both_ways}
 use Rattle.std.proofs.lemmas.Grind.{get_or_default_zero}
@@ -32,10 +32,11 @@ pub held : {P : Type 0} (r : Result (Unit {0}) Refusal) → true ≡ is_ok r →
 held (Ok u) e p = p
 held (Err _) e p = absurd (both_ways true e refl)
 
-pub answered_if : (s o : List ℕ) (r : Option Solution) → IfSome r (λ b. Reads s b.game) → IfSome r (λ b. b.answer ≡ o) → (g : Game) × (Reads s g × Answered g o)
-    → IfSome r (λ b. Reads s b.game × Answered b.game b.answer)
-answered_if s o None reads is solved = tt
-answered_if s o (Some b) reads is solved = (reads, answered_board b reads is solved)
+-- with a board, its answer is one to the game that the words are; what `None` says of one call is carried to another
+pub answered_or : {N M : Type 0} (s o : List ℕ) (r : Option Solution) → MatchOption r N (λ b. Reads s b.game) → IfSome r (λ b. b.answer ≡ o) → (g : Game) × (Reads s g × Answered g o) → (N → M)
+    → MatchOption r M (λ b. Reads s b.game × Answered b.game b.answer)
+answered_or s o None none is solved carried = carried none
+answered_or s o (Some b) reads is solved carried = (reads, answered_board b reads is solved)
 
 -- with as many words lent as the solver asks for, and an answer's room for each place, only words that are no game are refused
 pub solved_or_none : {s o o' : List ℕ} {lent : ℕ} (r : Result (Unit {0}) Refusal) → SolvedPost s lent o o' r → 65536 + 4 * length s ≤ lent → length o ≡ 2 * get_or s 0 0 → length o' ≡ length o

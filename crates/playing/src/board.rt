@@ -100,18 +100,19 @@ impl<'a> Board<'a> {
     }
 
     /// Solves the game that these words are, on the heap: the board is made of
-    /// `room`, and what that held is let go. `None` where they are no game.
+    /// `room`, and what that held is let go. `None` exactly where they are no game.
     pub fn solve_in(
         heap: Global,
         words: &'a [u32],
         room: &'a mut Room,
     ) -> Result<Option<Board<'a>>, AllocError>
-        ensures { IfOk result (λ o. IfSome o (λ b. Reads words.now b.game × Answered b.game b.answer)) }
+        ensures { IfOk result (λ o. MatchOption o ((g : Game) → Reads words.now g → ⊥) (λ b. Reads words.now b.game × Answered b.game b.answer)) }
     {
         let Some(answer) = solve_in(heap, words)? else {
             return Ok(None);
         };
-        room.starts = vec![in heap; [0, 0]; answer.len() / 2]?;
+        let places = words.first().copied().unwrap_or(0) as usize;
+        room.starts = vec![in heap; [0, 0]; places]?;
         room.answer = answer;
         Ok(Board::new(words, room.answer.as_slice(), room.starts.as_mut_slice()))
     }
@@ -120,7 +121,7 @@ impl<'a> Board<'a> {
     /// `solve` gives one. `starts` is lent, with one position for each place.
     /// `None` where the words are no game, or too few or too many are lent.
     pub fn new(words: &'a [u32], answer: &'a [u32], starts: &'a mut [Halves]) -> Option<Board<'a>>
-        ensures game { IfSome result (λ b. Reads words.now b.game) }
+        ensures game { MatchOption result ((g : Game) → Reads words.now g → length starts.old ≡ length g → ⊥) (λ b. Reads words.now b.game) }
         ensures answer { IfSome result (λ b. b.answer ≡ answer.now) }
     {
         let game = GameWords::read(words)?;
