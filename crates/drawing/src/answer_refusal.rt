@@ -44,6 +44,20 @@ impl AnswerRefusal {
             | AnswerRefusal::Memory => None,
         }
     }
+
+    /// What would be right, behind what is wrong with the place of a name.
+    fn hint(&self) -> &'static str {
+        match self {
+            AnswerRefusal::Unknown { .. } => "; an answer names places of the game",
+            AnswerRefusal::Twice { .. } => "; each place has one line",
+            AnswerRefusal::Missing { .. } => "; each place has one line, NAME SIDE MOVE",
+            AnswerRefusal::SameName { .. } => "; each place has a name of its own",
+            AnswerRefusal::Fault { .. }
+            | AnswerRefusal::TooLong
+            | AnswerRefusal::TooManyPlaces
+            | AnswerRefusal::Memory => "",
+        }
+    }
 }
 
 impl From<AllocError> for AnswerRefusal {
@@ -82,49 +96,38 @@ impl fmt::Display for LineFault {
 
 impl fmt::Display for AnswerRefusal {
     fn fmt<W: fmt::Write>(&self, f: &mut fmt::Formatter<W>) -> fmt::Result {
+        if let Some(line) = self.line() {
+            write!(f, "line {line}: ")?;
+        }
         match self {
-            AnswerRefusal::Fault { line, fault } => {
-                let fault = LineFault(*fault);
-                write!(f, "line {line}: {fault}")
-            }
-            AnswerRefusal::Unknown { line, name } => {
+            AnswerRefusal::Fault { fault, .. } => LineFault(*fault).fmt(f)?,
+            AnswerRefusal::Unknown { name, .. } => {
                 let name = Quoted(name.as_str());
-                write!(
-                    f,
-                    "line {line}: there is no place named {name}; an answer names places of the game"
-                )
+                write!(f, "there is no place named {name}")?;
             }
-            AnswerRefusal::Twice { line, name } => {
+            AnswerRefusal::Twice { name, .. } => {
                 let name = Quoted(name.as_str());
-                write!(
-                    f,
-                    "line {line}: there is a line of the place {name} already; each place has one line"
-                )
+                write!(f, "there is a line of the place {name} already")?;
             }
             AnswerRefusal::Missing { name } => {
                 let name = Quoted(name.as_str());
-                write!(
-                    f,
-                    "there is no line of the place {name}; each place has one line, NAME SIDE MOVE"
-                )
+                write!(f, "there is no line of the place {name}")?;
             }
             AnswerRefusal::TooLong => write!(
                 f,
                 "the answer is longer than {MOST_ANSWER_BYTES} bytes"
-            ),
+            )?,
             AnswerRefusal::TooManyPlaces => write!(
                 f,
                 "the game has more than {MOST_PLACES} places"
-            ),
+            )?,
             AnswerRefusal::SameName { name } => {
                 let name = Quoted(name.as_str());
-                write!(
-                    f,
-                    "two places are named {name}; each place has a name of its own"
-                )
+                write!(f, "two places are named {name}")?;
             }
-            AnswerRefusal::Memory => f.write_str("out of memory"),
+            AnswerRefusal::Memory => f.write_str("out of memory")?,
         }
+        f.write_str(self.hint())
     }
 }
 

@@ -1,5 +1,5 @@
 //! What the command line asks for.
-use crate::fault::Fault;
+use crate::fault::{Clash, Fault};
 use endless::side::Side;
 use forms::{Form, Kind};
 use std::alloc::{AllocError, AllocFailed, Global};
@@ -219,23 +219,29 @@ impl Options {
             side,
         } = self;
         let output = if all_moves {
-            output.with_all_moves().ok_or(Fault::AllMoves)?
+            output.with_all_moves().ok_or(Clash::AllMoves)?
         } else {
             output
         };
         let task = match (check, reach) {
-            (Some(_), Some(_)) => return Err(Fault::TwoTasks),
-            (Some(_), None) | (None, Some(_)) if ends => return Err(Fault::EndsTask),
-            (Some(_), None) | (None, Some(_)) if merge => return Err(Fault::MergeTask),
-            (Some(_), None) | (None, Some(_)) if all_moves => return Err(Fault::AllMoves),
+            (Some(_), Some(_)) => return Err(Fault::Clash(Clash::TwoTasks)),
+            (Some(_), None) | (None, Some(_)) if ends => return Err(Fault::Clash(Clash::EndsTask)),
+            (Some(_), None) | (None, Some(_)) if merge => return Err(Fault::Clash(
+                Clash::MergeTask,
+            )),
+            (Some(_), None) | (None, Some(_)) if all_moves => return Err(Fault::Clash(
+                Clash::AllMoves,
+            )),
             (Some(answer), None) => Task::Check(answer),
             (None, Some(target)) => Task::Reach { target, side },
-            (None, None) if ends && (merge || summary) => return Err(Fault::EndsOutput),
+            (None, None) if ends && (merge || summary) => return Err(Fault::Clash(
+                Clash::EndsOutput,
+            )),
             (None, None) if ends => {
-                Task::ShowWithEnds(EndsOutput::of(output).ok_or(Fault::EndsOutput)?)
+                Task::ShowWithEnds(EndsOutput::of(output).ok_or(Clash::EndsOutput)?)
             }
             (None, None) => match output {
-                Output::Moves(_) if merge => return Err(Fault::MergeTask),
+                Output::Moves(_) if merge => return Err(Fault::Clash(Clash::MergeTask)),
                 _ => Task::Show {
                     output,
                     merge,

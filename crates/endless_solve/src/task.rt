@@ -1,6 +1,6 @@
 //! What is asked for of each file.
 use crate::args::{Job, Task};
-use crate::fault::Fault;
+use crate::fault::{Clash, Fault};
 use crate::{check, input, reach, show};
 use std::process::ExitCode;
 
@@ -10,7 +10,7 @@ pub(crate) fn run_all(rt: &HostRuntime, job: &Job) -> Result<ExitCode, Fault> {
     if let Task::Check(answer) = &job.task {
         return match job.files.as_slice() {
             [file] => check::check(rt, file.as_str(), job.form, answer.as_str()),
-            _ => Err(Fault::OneGame),
+            _ => Err(Fault::Clash(Clash::OneGame)),
         };
     }
     for file in job.files.iter() {
