@@ -58,6 +58,23 @@ fn mark_made(
     side: Side,
     made: &mut [bool],
 ) -> Result<(), Fault> {
+    try_plans(heap, game, side, |plan, lost| {
+        if loses_none(winners, side, lost) {
+            plan.mark(winners, made);
+        }
+    })
+}
+
+/// Gives all plans of `side` to `each`, one after the other, with the places
+/// that a plan loses.
+fn try_plans<F: FnMut(Plan, &PlaceSet)>(
+    heap: Global,
+    game: &Game,
+    side: Side,
+    mut each: F,
+) -> Result<(), Fault>
+    requires { F.IsAlwaysCallable each }
+{
     let mut choice = vec![in heap; 0usize; game.len()]?;
     for _ in 0..MOST_PLANS {
         let plan = Plan {
@@ -66,9 +83,7 @@ fn mark_made(
             choice: choice.as_slice(),
         };
         let lost = plan.lost(heap)?;
-        if loses_none(winners, side, &lost) {
-            plan.mark(winners, made);
-        }
+        each(plan, &lost);
         if !next_plan(game, side, choice.as_mut_slice()) {
             return Ok(());
         }
@@ -92,22 +107,12 @@ fn set(made: &mut [bool], k: usize) {
 /// For each place whether `side` wins from it by some plan.
 fn won_by(heap: Global, game: &Game, side: Side) -> Result<Vec<bool>, Fault> {
     let mut won = vec![in heap; false; game.len()]?;
-    let mut choice = vec![in heap; 0usize; game.len()]?;
-    for _ in 0..MOST_PLANS {
-        let plan = Plan {
-            game,
-            side,
-            choice: choice.as_slice(),
-        };
-        let lost = plan.lost(heap)?;
+    try_plans(heap, game, side, |_, lost| {
         for (place, won) in won.iter_mut().enumerate() {
             *won = *won || !lost.has(place);
         }
-        if !next_plan(game, side, choice.as_mut_slice()) {
-            return Ok(won);
-        }
-    }
-    Err(Fault::ManyPlans)
+    })?;
+    Ok(won)
 }
 
 /// Counts on to the next plan of `side`: `choice` has, for each of its
