@@ -16,7 +16,11 @@ impl Desk {
     /// winner to the other side and to what is no side, a move to each place
     /// and to what is none. What is wrong, if not all ways to look at an answer
     /// say the same of one of these.
-    pub fn try_changes(&mut self, game: &Game, tally: &mut Tally) -> Result<Option<Wrong>, Fault> {
+    pub(crate) fn try_changes(
+        &mut self,
+        game: &Game,
+        tally: &mut Tally,
+    ) -> Result<Option<Wrong>, Fault> {
         let words = game.words(self.heap)?;
         let solved = solve(
             words.as_slice(),
@@ -31,7 +35,7 @@ impl Desk {
 
     /// The same of a game in which places may have no moves, at which `check`
     /// does not look.
-    pub fn try_changes_with_ends(
+    pub(crate) fn try_changes_with_ends(
         &mut self,
         game: &Game,
         tally: &mut Tally,

@@ -25,7 +25,7 @@ impl Desk {
     /// places, those from which it can and their moves, and says whether the
     /// definition has other numbers, for the game or for what the plan leaves of
     /// it; it has to have, once a number is changed.
-    pub fn try_distances(
+    pub(crate) fn try_distances(
         &mut self,
         game: &Game,
         target: u32,

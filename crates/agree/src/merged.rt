@@ -23,7 +23,11 @@ impl Desk {
     /// game and the moves there, and says what is wrong with these by all pairs
     /// and all plans, or with the answer that is found through them. By all
     /// pairs something has to be wrong, once the map is changed at a place.
-    pub fn try_merged(&mut self, game: &Game, tally: &mut Tally) -> Result<Option<Wrong>, Fault> {
+    pub(crate) fn try_merged(
+        &mut self,
+        game: &Game,
+        tally: &mut Tally,
+    ) -> Result<Option<Wrong>, Fault> {
         let words = game.words(self.heap)?;
         let mut merged = self.merged(words.as_slice(), game.len())?;
         let pairs = alike(self.heap, game)?;

@@ -11,7 +11,7 @@ use std::{fmt, io};
 
 /// Why the program stopped.
 #[derive(Drop)]
-pub enum Error {
+pub(crate) enum Error {
     Fault(Fault),
     Io(io::Error),
     /// So many games disagreed.
@@ -54,7 +54,7 @@ impl fmt::Display for Error {
 
 /// Lines of a table, one for each kind of games.
 #[derive(Drop)]
-pub struct Report<'a> {
+pub(crate) struct Report<'a> {
     rt: &'a HostRuntime,
     desk: Desk,
     /// The games since the last line.
@@ -66,7 +66,7 @@ pub struct Report<'a> {
 }
 
 impl<'a> Report<'a> {
-    pub fn new(rt: &'a HostRuntime) -> Result<Report<'a>, Error> {
+    pub(crate) fn new(rt: &'a HostRuntime) -> Result<Report<'a>, Error> {
         let desk = Desk::new(rt.alloc())?;
         Ok(Report {
             rt,
@@ -79,12 +79,12 @@ impl<'a> Report<'a> {
 
     /// The head of a group of lines about games: their places, and who wins
     /// them.
-    pub fn head(&self, title: &str) -> Result<(), Error> {
+    pub(crate) fn head(&self, title: &str) -> Result<(), Error> {
         self.head_of(title, ["places", "side 0", "side 1"])
     }
 
     /// The head of a group, with what its three columns count.
-    pub fn head_of(&self, title: &str, counted: [&str; 3]) -> Result<(), Error> {
+    pub(crate) fn head_of(&self, title: &str, counted: [&str; 3]) -> Result<(), Error> {
         let [first, second, third] = counted;
         println!(self.rt;
             "{title:<32} {:>6} {first:>7} {second:>7} {third:>7} {:>9}",
@@ -94,7 +94,7 @@ impl<'a> Report<'a> {
     }
 
     /// Tries a game, and prints it if `compare` finds its answer wrong.
-    pub fn try_game<F: Fn(Global, &Game, &Answer) -> Result<Option<Wrong>, Fault>>(
+    pub(crate) fn try_game<F: Fn(Global, &Game, &Answer) -> Result<Option<Wrong>, Fault>>(
         &mut self,
         game: &FineGame,
         compare: &F,
@@ -109,7 +109,12 @@ impl<'a> Report<'a> {
     }
 
     /// Tries an attractor of a game, and prints the game if it is wrong.
-    pub fn try_attractor(&mut self, game: &FineGame, target: u32, side: Side) -> Result<(), Error> {
+    pub(crate) fn try_attractor(
+        &mut self,
+        game: &FineGame,
+        target: u32,
+        side: Side,
+    ) -> Result<(), Error> {
         let game = &game.game;
         if let Some(wrong) = self
             .desk
@@ -122,7 +127,7 @@ impl<'a> Report<'a> {
 
     /// Tries a game's answer with each word changed, and prints the game if the
     /// ways to look at one of these disagree.
-    pub fn try_changes(&mut self, game: &FineGame) -> Result<(), Error> {
+    pub(crate) fn try_changes(&mut self, game: &FineGame) -> Result<(), Error> {
         let game = &game.game;
         if let Some(wrong) = self.desk.try_changes(game, &mut self.tally)? {
             self.show(game, &wrong)?;
@@ -132,7 +137,12 @@ impl<'a> Report<'a> {
 
     /// Tries the numbers of moves to a place, and prints the game if they are
     /// wrong.
-    pub fn try_distances(&mut self, game: &FineGame, target: u32, side: Side) -> Result<(), Error> {
+    pub(crate) fn try_distances(
+        &mut self,
+        game: &FineGame,
+        target: u32,
+        side: Side,
+    ) -> Result<(), Error> {
         let game = &game.game;
         if let Some(wrong) = self
             .desk
@@ -145,7 +155,7 @@ impl<'a> Report<'a> {
 
     /// Tries to make alike places of a game one, and prints it if what comes is
     /// wrong.
-    pub fn try_merged(&mut self, game: &FineGame) -> Result<(), Error> {
+    pub(crate) fn try_merged(&mut self, game: &FineGame) -> Result<(), Error> {
         let game = &game.game;
         if let Some(wrong) = self.desk.try_merged(game, &mut self.tally)? {
             self.show(game, &wrong)?;
@@ -155,7 +165,7 @@ impl<'a> Report<'a> {
 
     /// Tries a game in which places may have no moves, and prints it if its
     /// answer is wrong.
-    pub fn try_ends(&mut self, game: &EndsGame) -> Result<(), Error> {
+    pub(crate) fn try_ends(&mut self, game: &EndsGame) -> Result<(), Error> {
         let game = &game.game;
         if let Some(wrong) = self.desk.try_ends(game, &mut self.tally)? {
             self.show(game, &wrong)?;
@@ -165,7 +175,7 @@ impl<'a> Report<'a> {
 
     /// Tries the answer to such a game with each word changed, and prints it if
     /// the ways to look at one of these disagree.
-    pub fn try_changes_with_ends(&mut self, game: &EndsGame) -> Result<(), Error> {
+    pub(crate) fn try_changes_with_ends(&mut self, game: &EndsGame) -> Result<(), Error> {
         let game = &game.game;
         if let Some(wrong) = self.desk.try_changes_with_ends(game, &mut self.tally)? {
             self.show(game, &wrong)?;
@@ -181,14 +191,14 @@ impl<'a> Report<'a> {
     }
 
     /// The line for the games since the last one.
-    pub fn line(&mut self, name: &str) -> Result<(), Error> {
+    pub(crate) fn line(&mut self, name: &str) -> Result<(), Error> {
         let tally = self.tell(name)?;
         self.total = self.total.and(tally);
         Ok(())
     }
 
     /// The line for the answers with one word changed since the last one.
-    pub fn changed_line(&mut self, name: &str, size: u32) -> Result<(), Error> {
+    pub(crate) fn changed_line(&mut self, name: &str, size: u32) -> Result<(), Error> {
         let name = format!(in self.rt.alloc(); "{name} {size}")?;
         let tally = self.tell(name.as_str())?;
         self.changed = self.changed.and(tally);
@@ -212,14 +222,14 @@ impl<'a> Report<'a> {
     }
 
     /// The line for games of one size.
-    pub fn sized(&mut self, name: &str, size: u32) -> Result<(), Error> {
+    pub(crate) fn sized(&mut self, name: &str, size: u32) -> Result<(), Error> {
         let name = format!(in self.rt.alloc(); "{name} {size}")?;
         self.line(name.as_str())
     }
 
     /// The last lines; an error if a game disagreed, or an answer with a winner
     /// or a number changed was not refused.
-    pub fn end(&self) -> Result<(), Error> {
+    pub(crate) fn end(&self) -> Result<(), Error> {
         let Tally {
             games,
             disagreed,

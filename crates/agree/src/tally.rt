@@ -4,15 +4,15 @@ use allplans::side::Side;
 
 /// How many games were tried, and what came out.
 #[derive(Clone, Copy, Default)]
-pub struct Tally {
-    pub games: u32,
+pub(crate) struct Tally {
+    pub(crate) games: u32,
     /// What stands in the three columns between these: of a game its places,
     /// and how many of them each side wins.
-    pub counts: [u32; 3],
-    pub disagreed: u32,
+    pub(crate) counts: [u32; 3],
+    pub(crate) disagreed: u32,
     /// How many answers were refused after one winner or number in them was
     /// changed.
-    pub refused: u32,
+    pub(crate) refused: u32,
 }
 
 impl Tally {

@@ -26,7 +26,7 @@ const MOST_WORDS: usize = 1 + MOST_PLACES * 6;
 /// What was found wrong.
 // In an `Option`, as no error: it is what is asked for here, and `?` passes on why it cannot be told.
 #[derive(Drop)]
-pub enum Wrong {
+pub(crate) enum Wrong {
     /// The solver gave no answer.
     NoAnswer,
     /// `check` does not say that the solver's answer is right.
@@ -99,14 +99,14 @@ impl fmt::Display for Wrong {
 
 /// Memory for the solver, used again for each game.
 #[derive(Drop)]
-pub struct Desk {
+pub(crate) struct Desk {
     pub(crate) heap: Global,
     pub(crate) out: Vec<u32>,
     pub(crate) work: Vec<u32>,
 }
 
 impl Desk {
-    pub fn new(heap: Global) -> Result<Desk, Fault> {
+    pub(crate) fn new(heap: Global) -> Result<Desk, Fault> {
         let out = vec![in heap; 0; 2 * MOST_PLACES]?;
         let work = vec![in heap; 0; 8 * MOST_WORDS]?;
         Ok(Desk { heap, out, work })
@@ -114,7 +114,7 @@ impl Desk {
 
     /// Solves a game, counts it, and says what is wrong with the answer, if
     /// `check` or `compare` finds anything.
-    pub fn try_game<F: Fn(Global, &Game, &Answer) -> Result<Option<Wrong>, Fault>>(
+    pub(crate) fn try_game<F: Fn(Global, &Game, &Answer) -> Result<Option<Wrong>, Fault>>(
         &mut self,
         game: &Game,
         compare: &F,
@@ -143,7 +143,11 @@ impl Desk {
 
     /// The same of a game in which places may have no moves, at which `check`
     /// does not look.
-    pub fn try_ends(&mut self, game: &Game, tally: &mut Tally) -> Result<Option<Wrong>, Fault> {
+    pub(crate) fn try_ends(
+        &mut self,
+        game: &Game,
+        tally: &mut Tally,
+    ) -> Result<Option<Wrong>, Fault> {
         let words = game.words(self.heap)?;
         let solved = solve_with_ends(
             words.as_slice(),
@@ -188,7 +192,7 @@ impl Desk {
     /// Works out an attractor, counts its places and the others, and says
     /// whether a plain way has others; it has to have, once a place is
     /// changed.
-    pub fn try_attractor(
+    pub(crate) fn try_attractor(
         &mut self,
         game: &Game,
         target: u32,
@@ -227,7 +231,11 @@ impl Desk {
 
 /// What is wrong with an answer by trying all plans of both sides, and by
 /// rounds: where they find nothing, it is right.
-pub fn by_all_plans(heap: Global, game: &Game, answer: &Answer) -> Result<Option<Wrong>, Fault>
+pub(crate) fn by_all_plans(
+    heap: Global,
+    game: &Game,
+    answer: &Answer,
+) -> Result<Option<Wrong>, Fault>
     ensures { IfOk result (λ wrong. IfNone wrong (RightAnswer game.now.places.items (winners answer.now.claims.items) (plan answer.now.claims.items))) }
 {
     let winners = plans::winners(heap, game)?;
@@ -239,7 +247,7 @@ pub fn by_all_plans(heap: Global, game: &Game, answer: &Answer) -> Result<Option
 
 /// The same of a game without ends, and what is wrong with the moves that
 /// `winning_moves` marks in it.
-pub fn by_all_plans_and_moves(
+pub(crate) fn by_all_plans_and_moves(
     heap: Global,
     game: &Game,
     answer: &Answer,
@@ -254,7 +262,7 @@ pub fn by_all_plans_and_moves(
 
 /// What is wrong with an answer by rounds alone: where they find nothing, it
 /// is right.
-pub fn by_rounds(heap: Global, game: &Game, answer: &Answer) -> Result<Option<Wrong>, Fault>
+pub(crate) fn by_rounds(heap: Global, game: &Game, answer: &Answer) -> Result<Option<Wrong>, Fault>
     ensures { IfOk result (λ wrong. IfNone wrong (RightAnswer game.now.places.items (winners answer.now.claims.items) (plan answer.now.claims.items))) }
 {
     match checker::check(heap, game, answer) {
