@@ -1,6 +1,5 @@
 -- The first of some places, as their words have it.
-use Rattle.std.proofs.Common.{◌≡◌, ℕ, ◌<◌, ◌≤◌, List, [], ◌∷◌, ◌++◌, length, get_or, take, drop, refl, ap, ◌∙◌, arith}
-use Rattle.std.proofs.lemmas.List.{take_at, drop_at}
+use Rattle.std.proofs.Common.{◌≡◌, ℕ, ◌<◌, ◌≤◌, List, [], ◌∷◌, ◌++◌, length, get_or, drop, refl, ap, arith}
 use Rattle.endless.specs.Games.{Place, row}
 
 pub short_row : (s : List ℕ) (ps : List Place) → s ≡ row ps → length s < 3 → ps ≡ []
