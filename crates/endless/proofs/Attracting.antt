@@ -10,14 +10,14 @@ use Rattle.endless.proofs.Pigeonhole.{search_below}
 use Rattle.endless.proofs.Sets.{in_or_out, merge, merge_in, merge_out, minus_in, minus_within, minus_out, size_less, size_some, meets, each_at}
 
 -- a function with another value at one place
-put : {C : Type 0} → (ℕ → C) → ℕ → C → ℕ → C
+pub put : {C : Type 0} → (ℕ → C) → ℕ → C → ℕ → C
 put f n c = merge (λ m. eqb m n) (λ m. c) f
 
-put_at : {C : Type 0} (f : ℕ → C) (n : ℕ) (c : C) (m : ℕ) → m ≡ n → put f n c m ≡ c
+pub put_at : {C : Type 0} (f : ℕ → C) (n : ℕ) (c : C) (m : ℕ) → m ≡ n → put f n c m ≡ c
 unfolding put
 put_at f n c m e = merge_in (λ m. eqb m n) (λ m. c) f m (from_eq m n e)
 
-put_else : {C : Type 0} (f : ℕ → C) (n : ℕ) (c : C) (m : ℕ) → (m ≡ n → ⊥) → put f n c m ≡ f m
+pub put_else : {C : Type 0} (f : ℕ → C) (n : ℕ) (c : C) (m : ℕ) → (m ≡ n → ⊥) → put f n c m ≡ f m
 unfolding put
 put_else f n c m d = merge_out (λ m. eqb m n) (λ m. c) f m (λ t. d (eqb→eq m n t))
 

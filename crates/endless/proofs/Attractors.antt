@@ -3,7 +3,6 @@ use Rattle.std.proofs.Common.{◌≡◌, ℕ, zero, suc, ◌<◌, ◌≤◌, ◌
 use Rattle.std.proofs.lemmas.Bool.{cases_eq}
 use Rattle.endless.specs.Games.{Game, Reads, whose, May, Play, Plays, ByPlan, other}
 use Rattle.endless.specs.Sets.{Set, In, Out}
-use Rattle.endless.specs.Subgames.{Same}
 use Rattle.endless.specs.Attractors.{Attractor, Least, Brings, KeepsOut, AttractorLaws}
 use Rattle.endless.proofs.Places.{side_below, is_other, not_other}
 use Rattle.endless.proofs.Sets.{in_or_out}
@@ -79,12 +78,12 @@ attractor_laws = record {
   keeps_out = λ s g U w D A plan rank r l att. attractor_keeps_out r l att;
 }
 
--- the same plan, told otherwise
-pub attractor_plan : {g : Game} {U : Set} {w : ℕ} {D A : Set} {τ rank : ℕ → ℕ} (π : ℕ → ℕ) → Same g w A π τ → Attractor g U w D A τ rank → Attractor g U w D A π rank
-attractor_plan {g} {U} {w} {D} {A} {τ} {rank} π same att = record {
+-- the same plan beyond the targets, told otherwise
+pub attractor_own : {g : Game} {U : Set} {w : ℕ} {D A : Set} {τ rank : ℕ → ℕ} (π : ℕ → ℕ) → ((n : ℕ) → In A n → Out D n → π n ≡ τ n) → Attractor g U w D A τ rank → Attractor g U w D A π rank
+attractor_own {g} {U} {w} {D} {A} {τ} {rank} π same att = record {
   within = att.within;
   targets = att.targets;
-  own = λ n x d e. subst (λ (m : ℕ). May g n m × In A m × (rank m < rank n)) (sym (same n x e)) (att.own n x d e);
+  own = λ n x d e. subst (λ (m : ℕ). May g n m × In A m × (rank m < rank n)) (sym (same n x d)) (att.own n x d e);
   forced = att.forced;
   no_way_in = att.no_way_in;
   way_past = att.way_past;

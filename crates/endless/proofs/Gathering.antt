@@ -6,6 +6,7 @@ use Rattle.endless.specs.Games.{Game}
 use Rattle.endless.specs.Says.{side, goes}
 use Rattle.endless.specs.Sets.{Set, In, Out, Within, having}
 use Rattle.endless.specs.Bits.{members, size, Removed, Least, NoneFrom}
+use Rattle.endless.specs.Ways.{ways, queued}
 use Rattle.endless.specs.Pulling.{Passed, Unchanged, Starts}
 use Rattle.endless.specs.Levels.{Stays, Given}
 use Rattle.endless.specs.Parts.{PickedIf}
@@ -13,7 +14,9 @@ use Rattle.endless.proofs.Tests.{T_true, true_T}
 use Rattle.endless.proofs.Sets.{having_in, having_within, having_is}
 use Rattle.endless.proofs.SetLaws.{members_below, some_size}
 use Rattle.endless.proofs.Pushed.{pushed_each, pushed_passed}
-use Rattle.endless.proofs.Working.{put_goes, put_side, put_unchanged, removed_out, removed_within, removed_still}
+use Rattle.endless.proofs.Removed.{removed_out, removed_within, removed_still}
+use Rattle.endless.proofs.Ways.{total_kept}
+use Rattle.endless.proofs.Working.{put_goes, put_side, put_unchanged}
 
 -- a member that a scan from `from` on would have found is below it
 pub before : (l : List ℕ) (from n : ℕ) → (from ≤ n → members l n ≡ false) → In (members l) n → n < from
@@ -33,6 +36,7 @@ pub record Gathering (f : ℕ → ℕ) (k : ℕ) (own left queue : List ℕ) (fr
   pub covers : (n : ℕ) → In (members own) n → Out (members left) n → (n < from) × (f n ≡ k)
   pub first : (j : ℕ) → j < count → In (members own) (get_or queue j 0) × (f (get_or queue j 0) ≡ k)
   pub all : (n : ℕ) → In (members own) n → Out (members left) n → Passed queue count n
+  pub total : (ms : List ℕ) → ways (members left) ms + queued queue count ms ≡ ways (members own) ms
 
 module _ {f : ℕ → ℕ} {k : ℕ} {own left queue : List ℕ} {from count : ℕ} (so_far : Gathering f k own left queue from count) where
   module _ {m : ℕ} (least : Least (members left) from m) where
@@ -55,6 +59,7 @@ module _ {f : ℕ → ℕ} {k : ℕ} {own left queue : List ℕ} {from count : �
       covers = λ n x o. let t = so_far.covers n x o in (omega (arith, t.0, least.after), t.1);
       first = so_far.first;
       all = so_far.all;
+      total = so_far.total;
     }
 
     pub gathering_take : {left' queue' : List ℕ} → f m ≡ k → count < length queue → Removed left m left' → queue' ≡ set queue count m → Gathering f k own left' queue' (m + 1) (count + 1)
@@ -67,6 +72,7 @@ module _ {f : ℕ → ℕ} {k : ℕ} {own left queue : List ℕ} {from count : �
       covers = λ n x o. covers n x o (cases_eq n m);
       first = pushed_each queue count m q room (λ n. In (members own) n × (f n ≡ k)) so_far.first (gathering_inside, is);
       all = λ n x o. pushed_passed queue count m q room n (⊎_elim (λ e. inl e) (λ d. inr (so_far.all n x (removed_still left m left' rem n d o))) (cases_eq n m));
+      total = λ ms. total_kept left queue count m room (true_T _ least.is) rem q ms ∙ so_far.total ms;
     }
       where
         apart : (n : ℕ) → n < m + 1 → f n ≡ k → In (members left') n → (n ≡ m) ⊎ (n ≡ m → ⊥) → ⊥
@@ -90,6 +96,7 @@ module _ {f : ℕ → ℕ} {k : ℕ} {own left queue : List ℕ} {from count : �
     covers = λ n x o. having_in (members own) f k n x (so_far.covers n x o).1;
     first = λ j h. let t = so_far.first j h in having_in (members own) f k (get_or queue j 0) t.0 t.1;
     all = λ n x. so_far.all n (having_within (members own) f k n x) (apart n x);
+    total = so_far.total;
   }
     where
       apart : (n : ℕ) → In (having (members own) f k) n → Out (members left) n

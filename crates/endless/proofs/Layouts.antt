@@ -17,6 +17,7 @@ use Rattle.endless.proofs.Tests.{true_T}
 use Rattle.endless.proofs.Places.{ok_size, weight_below}
 use Rattle.endless.proofs.Sets.{whole_in, whole_place}
 use Rattle.endless.proofs.CountLaws.{count_le, count_sub, count_below}
+use Rattle.endless.proofs.Sources.{edges_long}
 use Rattle.endless.proofs.Preds.{words_length}
 use Rattle.endless.proofs.Steps.{whole_subgame, subgame_as}
 use Rattle.endless.proofs.Turns.{solves_same}
@@ -45,16 +46,17 @@ unfolding size
 inside_size set k room inside = omega (arith, count_sub (members set) (λ j. ltb j k) (32 * length set) (λ j l e. lt-ltb j k (inside j (true_T _ e))), count_below k (32 * length set) room)
 
 -- and the first level has its room
-pub first_room : {g : Game} {set queue escapes rest : List ℕ} (sets : List ℕ) (desk : Desk) → Playable g → Fits g queue escapes set rest → Subgame g (members set) → 2 * length g ≤ length desk.out.now → desk.queue.now ≡ queue → desk.escapes.now ≡ escapes → length sets ≡ kinds g * length set → Room g 256 set sets desk
-first_room {g} {set} sets desk reads fits sub answers q e long =
+pub first_room : {g : Game} {set queue via escapes rest : List ℕ} (sets : List ℕ) (desk : Desk) → Playable g → Fits g queue via escapes set rest → Subgame g (members set) → 2 * length g ≤ length desk.out.now → desk.queue.now ≡ queue → desk.via.now ≡ via → length desk.escapes.now ≡ length escapes → length sets ≡ kinds g * length set → Room g 256 set sets desk
+first_room {g} {set} sets desk reads fits sub answers q v e long =
     let most = (ok_size _ g reads).1 in
     let w : 32 * width (length g) ≤ length g + 31 = omega arith in
     let holds : length g ≤ 32 * length set = omega (arith, fits.wide) in
     record {
       subgame = sub;
       light = λ n x. weight_below reads n;
-      sized = record { sets = holds; answers = answers; cursors = rw e fits.cursors };
+      sized = record { sets = holds; answers = answers; counts = omega (arith, fits.counts, e) };
       queues = omega (arith, inside_size set (length g) holds sub.places, ap length q, fits.queues);
+      beside = omega (arith, inside_size set (length g) holds sub.places, ap length v, fits.beside);
       small = omega (arith, fits.wide);
       sets = omega (arith, long);
     }
@@ -67,8 +69,8 @@ lent_is_enough s g r =
     let kinds-most : kinds g + 1 ≤ 257 = omega (arith, count_le (occurs g) 256) in
     let wide = mul-le-mul_right (width n) kinds-most in
     let w : 32 * width n ≤ n + 31 = omega arith in
-    omega (arith, wide, ap length r.is, words_length g)
+    omega (arith, wide, ap length r.is, words_length g, edges_long r)
 
 -- and so in parts: the set of all places, and behind it one for each level
-pub sets_fit : (g : Game) → Playable g → ((length g + length g) + ((length g + 1) + (length g + 1) + edges g)) + ((length g + length g) + (width (length g) + kinds g * width (length g))) ≤ lent_for g
+pub sets_fit : (g : Game) → Playable g → ((length g + length g) + (width (length g) + length g) + ((length g + 1) + (length g + 1) + edges g)) + (((length g + 1) + (length g + 1) + length g) + (width (length g) + kinds g * width (length g))) ≤ lent_for g
 sets_fit g r = omega (arith, lent_is_enough (words_of g) g r, add-mul (kinds g) 1 (width (length g)))

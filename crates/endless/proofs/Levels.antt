@@ -8,25 +8,30 @@ use Rattle.endless.specs.Subgames.{Subgame, Closed, Solves}
 use Rattle.endless.specs.Bits.{members, count, size}
 use Rattle.endless.specs.Weights.{weighing, occurs}
 use Rattle.endless.specs.View.{Playable}
+use Rattle.endless.specs.Ways.{Counted}
 use Rattle.endless.specs.Pulling.{Unchanged, Moved, Starts, Attracts}
 use Rattle.endless.specs.Desks.{SameDesk}
 use Rattle.endless.specs.declared.desk.Desk.{Desk}
 use Rattle.endless.specs.Levels.{HeaviestIn, GatheredIn, Brought, Peeled, Peels, Reduces, levels, Room}
 use Rattle.endless.proofs.Tests.{T_true, true_T}
-use Rattle.endless.proofs.Sets.{in_or_out, minus_out, having_in, having_within}
+use Rattle.endless.proofs.Sets.{in_or_out, minus_in, minus_out, having_in, having_within}
 use Rattle.endless.proofs.CountLaws.{count_more_yes, count_add, some_count}
 use Rattle.endless.proofs.SetLaws.{size_none, size_some, size_sub}
 use Rattle.endless.proofs.Steps.{rest_subgame, subgame_as, closed_subgame}
 use Rattle.endless.proofs.Working.{unchanged_goes, same_side}
 use Rattle.endless.proofs.Turns.{minus_twice, twice_minus, reduces_none, reduces_then, reduces_all, turn_reduces}
 
+-- an answer is changed only where places are taken from what is left
+abbrev pub Frame : List ℕ → List ℕ → List ℕ → List ℕ → Type 0
+Frame left left' out out' = (n : ℕ) → (In (members left) n → In (members left') n) → Unchanged out out' n
+
 -- targets are not touched by going through the queue
-kept_targets : {U D : Set} {l q o : List ℕ} {k : ℕ} {l' q' o' : List ℕ} {t : ℕ} → Starts U D l q k → Moved l q o k l' q' o' t → (n : ℕ) → In D n → Unchanged o o' n
-kept_targets st m n d = m.frame n (λ x. absurd (st.apart n d x))
+kept_targets : {U D : Set} {l q : List ℕ} {k : ℕ} (l' o o' : List ℕ) → Starts U D l q k → Frame l l' o o' → (n : ℕ) → In D n → Unchanged o o' n
+kept_targets l' o o' st frame n d = frame n (λ x. absurd (st.apart n d x))
 
 -- the heaviest places of a closed part in the queue, each with a move within the part, then their attractor
-pub brought_in : {g : Game} {V U : Set} {w h : ℕ} {l q o : List ℕ} {k : ℕ} {l' q' o' : List ℕ} {t : ℕ} → Subgame g V → Closed g V U → length o' ≡ length o → GatheredIn g U V w h l q o k → Moved l q o k l' q' o' t → Attracts g U w (having U (weight g) h) l' q' o' t → Brought g U w h (members l') o'
-brought_in {g = g} {U = U} {w = w} {h = h} {o = o} {l' = l'} {o' = o'} sub closed long ga m at = record {
+pub brought_in : {g : Game} {V U : Set} {w h : ℕ} {l q o : List ℕ} {k : ℕ} {l' q' o' e' : List ℕ} {t : ℕ} → Subgame g V → Closed g V U → length o' ≡ length o → GatheredIn g U V w h l q o k → Moved l q k l' q' t → Frame l l' o o' → Attracts g U w (having U (weight g) h) l' q' o' e' t → Brought g U w h (members l') o'
+brought_in {g = g} {U = U} {w = w} {h = h} {o = o} {l' = l'} {o' = o'} sub closed long ga m frame at = record {
   within = λ n x. ga.starts.rest n (m.less n x);
   rank = at.rank;
   attractor = at.attractor;
@@ -35,7 +40,7 @@ brought_in {g = g} {U = U} {w = w} {h = h} {o = o} {l' = l'} {o' = o'} sub close
 }
   where
     same : (n : ℕ) → In (having U (weight g) h) n → Unchanged o o' n
-    same = kept_targets ga.starts m
+    same = kept_targets l' o o' ga.starts frame
 
     labelled : (n : ℕ) → In U n → Out (members l') n → In (having U (weight g) h) n ⊎ Out (having U (weight g) h) n → side o' n ≡ w
     labelled n u x (inl d) = same_side o o' n long (same n d) ∙ ga.labelled n d
@@ -49,18 +54,18 @@ brought_in {g = g} {U = U} {w = w} {h = h} {o = o} {l' = l'} {o' = o'} sub close
         subst (λ (j : ℕ). May g n j × In U j) (sym (unchanged_goes o o' n (same n d))) (s.0, closed.stays n (goes o n) u s.0 s.1)
 
 -- what is lost in the queue, then its attractor
-pub peeled_of : {g : Game} {U X : Set} {w : ℕ} {l q o : List ℕ} {k : ℕ} {l' q' o' : List ℕ} {t : ℕ} → Starts U X l q k → Moved l q o k l' q' o' t → Attracts g U w X l' q' o' t → Peeled g U w X (members l') o o'
-peeled_of st m at = record {
+pub peeled_of : {g : Game} {U X : Set} {w : ℕ} {l q o : List ℕ} {k : ℕ} {l' q' o' e' : List ℕ} {t : ℕ} → Starts U X l q k → Moved l q k l' q' t → Frame l l' o o' → Attracts g U w X l' q' o' e' t → Peeled g U w X (members l') o o'
+peeled_of {o = o} {l' = l'} {o' = o'} st m frame at = record {
   within = λ n x. st.rest n (m.less n x);
   rank = at.rank;
   attractor = at.attractor;
   labelled = at.labelled;
-  kept = kept_targets st m;
+  kept = kept_targets l' o o' st frame;
 }
 
--- nothing is lost
-pub none_lost : {U : Set} (R : Set) {q : ℕ} {l queue : List ℕ} (o : List ℕ) {k : ℕ} → k ≡ 0 → Starts U (having R (side o) q) l queue k → (n : ℕ) → In R n → side o n ≡ q → ⊥
-none_lost R {q = q} o zero st n u e = omega (arith, zero, (st.all n (having_in R (side o) q n u e)).1)
+-- where a whole part is in the queue, what is left is outside of it
+pub left_counted : (g : Game) {U D : Set} (R : Set) {l q : List ℕ} {k : ℕ} (escapes : List ℕ) → Starts U D l q k → Within R D → Counted g U (minus U R) escapes → Counted g U (members l) escapes
+left_counted g {U = U} R escapes st inside counted n x = counted n (minus_in U R n (st.rest n x) (λ r. st.apart n (inside n r) x))
 
 -- a place's weight occurs, and so there is a level less below it
 pub weight_occurs : (g : Game) (n h : ℕ) → n < length g → weight g n ≡ h → occurs g h ≡ true
@@ -78,10 +83,10 @@ brought_subgame {U = U} {B = B} sub b = subgame_as (minus U (minus U B)) B (minu
 
 -- the same desk, time after time
 pub desk_then : {a b c : Desk} → SameDesk a b → SameDesk b c → SameDesk a c
-desk_then s t = record { out = t.out ∙ s.out; queue = t.queue ∙ s.queue; escapes = t.escapes ∙ s.escapes; out_long = t.out_long ∙ s.out_long; queue_long = t.queue_long ∙ s.queue_long; escapes_long = t.escapes_long ∙ s.escapes_long }
+desk_then s t = record { out = t.out ∙ s.out; queue = t.queue ∙ s.queue; via = t.via ∙ s.via; escapes = t.escapes ∙ s.escapes; out_long = t.out_long ∙ s.out_long; queue_long = t.queue_long ∙ s.queue_long; via_long = t.via_long ∙ s.via_long; escapes_long = t.escapes_long ∙ s.escapes_long }
 
 pub desk_none : (a : Desk) → SameDesk a a
-desk_none a = record { out = refl; queue = refl; escapes = refl; out_long = refl; queue_long = refl; escapes_long = refl }
+desk_none a = record { out = refl; queue = refl; via = refl; escapes = refl; out_long = refl; queue_long = refl; via_long = refl; escapes_long = refl }
 
 -- the room for the level below
 pub room_below : {g : Game} {bound h w : ℕ} {own rest : List ℕ} {desk : Desk} (part : List ℕ) {left deeper : List ℕ} {desk' : Desk} → Room g bound own rest desk → Closed g (members own) (members part) → HeaviestIn g (members part) h → Brought g (members part) w h (members left) desk'.out.now →
@@ -89,12 +94,16 @@ pub room_below : {g : Game} {bound h w : ℕ} {own rest : List ℕ} {desk : Desk
 room_below {g = g} {bound = bound} {h = h} {own = own} part {left = left} {deeper = deeper} r closed heavy b long-l long-d same-d = record {
   subgame = brought_subgame (closed_subgame r.subgame closed) b;
   light = light;
-  sized = record { sets = omega (arith, r.sized.sets); answers = omega (arith, r.sized.answers, same-d.out_long); cursors = omega (arith, r.sized.cursors, same-d.escapes_long) };
-  queues = omega (arith, r.queues, same-d.queue_long, size_sub left own long-l (λ j x. T_true _ (closed.within j (b.within j (true_T _ x)))));
+  sized = record { sets = omega (arith, r.sized.sets); answers = omega (arith, r.sized.answers, same-d.out_long); counts = omega (arith, r.sized.counts, same-d.escapes_long) };
+  queues = omega (arith, r.queues, same-d.queue_long, fewer);
+  beside = omega (arith, r.beside, same-d.via_long, fewer);
   small = omega (arith, r.small);
   sets = sets;
 }
   where
+    fewer : size left ≤ size own
+    fewer = size_sub left own long-l (λ j x. T_true _ (closed.within j (b.within j (true_T _ x))))
+
     light : (n : ℕ) → In (members left) n → weight g n < h
     light n x = omega (arith, heavy.most n (b.within n x), unequal)
       where
@@ -166,11 +175,15 @@ pub room_now : {g : Game} {bound : ℕ} {own rest own' rest' : List ℕ} {desk d
 room_now {g = g} {bound = bound} {own = own} {own' = own'} r k long-w long-r same-d = record {
   subgame = (k.reduces r.subgame).rest;
   light = λ n x. r.light n (k.less n x);
-  sized = record { sets = omega (arith, r.sized.sets); answers = omega (arith, r.sized.answers, same-d.out_long); cursors = omega (arith, r.sized.cursors, same-d.escapes_long) };
-  queues = omega (arith, r.queues, same-d.queue_long, size_sub own' own long-w (λ j x. T_true _ (k.less j (true_T _ x))));
+  sized = record { sets = omega (arith, r.sized.sets); answers = omega (arith, r.sized.answers, same-d.out_long); counts = omega (arith, r.sized.counts, same-d.escapes_long) };
+  queues = omega (arith, r.queues, same-d.queue_long, fewer);
+  beside = omega (arith, r.beside, same-d.via_long, fewer);
   small = omega (arith, r.small);
   sets = omega (arith, r.sets, ap (λ (k : ℕ). levels g bound * k) long-w);
 }
+  where
+    fewer : size own' ≤ size own
+    fewer = size_sub own' own long-w (λ j x. T_true _ (k.less j (true_T _ x)))
 
 -- the weights below are lighter
 pub room_light : {g : Game} {bound h : ℕ} {own rest : List ℕ} {desk : Desk} (part : List ℕ) → Room g bound own rest desk → Closed g (members own) (members part) → HeaviestIn g (members part) h → h < bound

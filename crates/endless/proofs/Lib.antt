@@ -36,7 +36,9 @@ mod Lists
 mod Preds
 pub mod Sources
 mod Totals
-mod Escapes
+mod MovesAt
+mod Removed
+mod Ways
 pub mod Working
 mod Looking
 mod Queueing
@@ -46,6 +48,7 @@ mod Parts
 mod Gathering
 mod Picking
 mod MemberLists
+mod Recounting
 mod Layouts
 pub mod Solving
 mod Reaching

@@ -1,5 +1,5 @@
 -- The members of a set as a list, as its iterator gives them; the heaviest of a list.
-use Rattle.std.proofs.Common.{◌≡◌, ℕ, zero, suc, ◌+◌, ◌-◌, ◌*◌, ◌<◌, ◌≤◌, Bool, true, false, cond, ◌⊎◌, List, [], ◌∷◌, Option, Some, max, map, fold, option_map, unwrap_or, length, get_or, sym, refl, ap, ◌∙◌, subst, inl, inr, arith}
+use Rattle.std.proofs.Common.{◌≡◌, ℕ, zero, suc, ◌+◌, ◌-◌, ◌*◌, ◌<◌, ◌≤◌, Bool, true, false, cond, ◌⊎◌, List, [], ◌∷◌, Option, Some, None, max, map, fold, option_map, unwrap_or, length, get_or, sym, refl, ap, ◌∙◌, subst, inl, inr, arith}
 use Rattle.std.proofs.lemmas.Bool.{cases_eq, cases_lt, both_ways}
 use Rattle.std.proofs.lemmas.Iterator.{YieldsList}
 use Rattle.std.proofs.lemmas.Iterator.Consumers.{YieldsList-from_shown}
@@ -10,7 +10,8 @@ use Rattle.endless.specs.Games.{Game, weight}
 use Rattle.endless.specs.Levels.{HeaviestOf}
 use Rattle.endless.specs.Bits.{members, Least, NoneFrom}
 use Rattle.endless.specs.Pulling.{Passed}
-use Rattle.endless.specs.Parts.{Told}
+use Rattle.endless.specs.Sets.{Set}
+use Rattle.endless.specs.Parts.{Told, Part}
 use Rattle.endless.specs.declared.bits.Members.{Members}
 use Rattle.endless.proofs.Tests.{T_true, true_T}
 use Rattle.endless.proofs.SetLaws.{members_below}
@@ -61,6 +62,10 @@ members_told l n = (
   λ x. listed_has (members l) 0 (32 * length l) n (omega arith) (omega (arith, members_below l n (T_true _ x))) (T_true _ x),
   λ p. true_T _ (ap (members l) (sym p.2) ∙ listed_is (members l) 0 (32 * length l) p.0 p.1),
 )
+
+-- and so a part of it that is told by no list of its own
+pub told_part : (l : List ℕ) (R : Set) {list : Option (List ℕ)} → Part l list R → list ≡ None → Told (all_members l) R
+told_part l R part none n = (λ x. (members_told l n).0 (part.within n x), λ p. part.whole none n ((members_told l n).1 p))
 
 -- what a call of the set's iterator gives
 abbrev gives : Members → Option ℕ → Members → Type 0

@@ -1,6 +1,6 @@
 -- Going through a list of places, or through what an iterator gives: those that go to the queue.
-use Rattle.std.proofs.Common.{◌≡◌, ℕ, ◌+◌, ◌*◌, ◌<◌, ◌≤◌, ◌⊎◌, List, Option, Some, None, length, get_or, set, sym, refl, ap, ◌∙◌, subst, ⊎_elim, inl, inr, arith}
-use Rattle.std.proofs.lemmas.Bool.{cases_eq, cases_lt}
+use Rattle.std.proofs.Common.{◌≡◌, ℕ, ◌+◌, ◌*◌, ◌<◌, ◌≤◌, Bool, true, false, eqb, ◌⊎◌, List, Option, Some, None, length, get_or, set, sym, refl, ap, ◌∙◌, subst, ⊎_elim, inl, inr, arith, eqb→eq}
+use Rattle.std.proofs.lemmas.Bool.{cases_eq, cases_lt, eq-eqb, both_ways}
 use Rattle.std.proofs.lemmas.Iterator.{YieldsList}
 use Rattle.std.proofs.lemmas.Iterator.Consumers.{YieldsList-turn, YieldsList-end}
 use Rattle.std.proofs.lemmas.Grind.{get_or_default_zero}
@@ -9,19 +9,22 @@ use Rattle.endless.specs.Games.{Game, weight}
 use Rattle.endless.specs.Says.{side, goes}
 use Rattle.endless.specs.Sets.{Set, In, Out, Within, having}
 use Rattle.endless.specs.Bits.{members, size, Removed}
+use Rattle.endless.specs.Ways.{ways, queued}
 use Rattle.endless.specs.Pulling.{Passed, Unchanged, Starts}
 use Rattle.endless.specs.Sides.{number}
 use Rattle.endless.specs.Levels.{HeaviestIn, HeaviestOf, GatheredIn, Stays, Taken, TakenIf}
 use Rattle.endless.specs.Gatherings.{SameGathering, SamePicking, Takes, Picks}
 use Rattle.endless.specs.declared.gather.Gathering.{Gathering}
 use Rattle.endless.specs.declared.gather.Picking as picking
-use Rattle.endless.specs.Parts.{Told, Covers, Gives, Part, PickedIf, wanted, mark}
+use Rattle.endless.specs.Parts.{Told, Covers, Gives, Part, PickedIf, Any, AnyAt, wanted, mark}
 use Rattle.endless.proofs.Tests.{T_true, true_T}
 use Rattle.endless.proofs.SetLaws.{size_some}
 use Rattle.endless.proofs.Sets.{having_in, having_within, having_is}
 use Rattle.endless.proofs.Gathering.{given_same, given_length, given_side, given_stays}
 use Rattle.endless.proofs.Pushed.{pushed_each, pushed_passed}
-use Rattle.endless.proofs.Working.{unchanged_goes, same_side, removed_out, removed_within, removed_still}
+use Rattle.endless.proofs.Removed.{removed_out, removed_within, removed_still}
+use Rattle.endless.proofs.Ways.{total_kept}
+use Rattle.endless.proofs.Working.{unchanged_goes, same_side}
 
 -- what stands in a told list is in the part
 pub told_in : (list : List ℕ) (R : Set) → Told list R → (j : ℕ) → j < length list → In R (get_or list j 0)
@@ -53,6 +56,24 @@ heaviest_told g list R h told k = record {
   some_place = let t = k.some_place in (get_or list t.0 0, told_in list R told t.0 t.1, t.2);
 }
 
+-- ---- whether f is k at any
+
+module _ (f : ℕ → ℕ) (k : ℕ) (list : List ℕ) where
+  pub any_here : (i : ℕ) {place : ℕ} → i < length list → get_or list i 0 ≡ place → eqb (f place) k ≡ true → AnyAt f k list (length list) true
+  any_here i {place} h is same = (i, h, ap f is ∙ eqb→eq (f place) k (true_T _ same))
+
+  pub any_more : (i : ℕ) {place : ℕ} → get_or list i 0 ≡ place → AnyAt f k list i false → eqb (f place) k ≡ false → AnyAt f k list (i + 1) false
+  any_more i {place} is so_far other j h e = go (cases_lt j i)
+    where
+      go : (j < i) ⊎ (i ≤ j) → ⊥
+      go (inl l) = so_far j l e
+      go (inr l) = both_ways (eqb (f place) k) other (eq-eqb (f place) k (ap f (sym is ∙ ap (λ (x : ℕ). get_or list x 0) (let t : i ≡ j = omega arith in t)) ∙ e))
+
+  -- of a list that tells a set
+  pub any_told : (R : Set) → Told list R → (r : Bool) → AnyAt f k list (length list) r → Any (having R f k) r
+  any_told R told true = λ t. (get_or list t.0 0, having_in R f k (get_or list t.0 0) (told_in list R told t.0 t.1) t.2)
+  any_told R told false = λ none n x. let t = (told n).0 (having_within R f k n x) in none t.0 t.1 (ap f t.2 ∙ having_is R f k n x)
+
 -- ---- those at which f is k
 
 -- of the first i places of a list, those in the set at which f is k have gone from what is left to the queue
@@ -64,6 +85,7 @@ pub record Picking (f : ℕ → ℕ) (k : ℕ) (own list : List ℕ) (i : ℕ) (
   pub covers : (n : ℕ) → In (members own) n → Out (members left) n → Passed list i n × (f n ≡ k)
   pub first : (j : ℕ) → j < count → In (members own) (get_or queue j 0) × Out (members left) (get_or queue j 0)
   pub all : (n : ℕ) → In (members own) n → Out (members left) n → Passed queue count n
+  pub total : (ms : List ℕ) → ways (members left) ms + queued queue count ms ≡ ways (members own) ms
 
 module _ {f : ℕ → ℕ} {k : ℕ} {own list : List ℕ} {i : ℕ} {left queue : List ℕ} {count : ℕ} (so_far : Picking f k own list i left queue count) where
   later : (n : ℕ) → Passed list i n → Passed list (i + 1) n
@@ -78,6 +100,7 @@ module _ {f : ℕ → ℕ} {k : ℕ} {own list : List ℕ} {i : ℕ} {left queue
     covers = λ n x o. let t = so_far.covers n x o in (later n t.0, t.1);
     first = so_far.first;
     all = so_far.all;
+    total = so_far.total;
   }
     where
       apart : (j : ℕ) → j < i + 1 → (j < i) ⊎ (i ≤ j) → f (get_or list j 0) ≡ k → Out (members left) (get_or list j 0)
@@ -96,6 +119,7 @@ module _ {f : ℕ → ℕ} {k : ℕ} {own list : List ℕ} {i : ℕ} {left queue
           (λ j l. let t = so_far.first j l in (t.0, λ x. t.1 (removed_within left (get_or list i 0) left' rem (get_or queue j 0) x)))
           (so_far.rest (get_or list i 0) mine, removed_out left (get_or list i 0) left' rem);
       all = λ n x o. pushed_passed queue count (get_or list i 0) q room n (⊎_elim (λ e. inl e) (λ d. inr (so_far.all n x (removed_still left (get_or list i 0) left' rem n d o))) (cases_eq n (get_or list i 0)));
+      total = λ ms. total_kept left queue count (get_or list i 0) room mine rem q ms ∙ so_far.total ms;
     }
       where
         apart : (j : ℕ) → j < i + 1 → (j < i) ⊎ (i ≤ j) → f (get_or list j 0) ≡ k → Out (members left') (get_or list j 0)
@@ -120,6 +144,7 @@ module _ {f : ℕ → ℕ} {k : ℕ} {own list : List ℕ} {i : ℕ} {left queue
     covers = covers;
     first = λ j h. let t = so_far.first j h in covers (get_or queue j 0) t.0 t.1;
     all = λ n x. so_far.all n (inside n (having_within R f k n x)) (apart n x);
+    total = so_far.total;
   }
     where
       apart : (n : ℕ) → In (having R f k) n → Out (members left) n
@@ -207,6 +232,7 @@ starts_as U D E l q k to fro s = record {
   covers = λ n x o. to n (s.covers n x o);
   first = λ j h. to (get_or q j 0) (s.first j h);
   all = λ n x. s.all n (fro n x);
+  total = s.total;
 }
 
 -- where there is no list, a part is all of its set

@@ -7,7 +7,7 @@ use Rattle.endless.specs.Games.{Place, Game, Reads, row}
 use Rattle.endless.specs.Graph.{moves, times, entering, edges, sources, upto, Listed, Filling, Room, Counts, Entered, Ready}
 use Rattle.endless.specs.View.{words_of}
 use Rattle.endless.proofs.Places.{ok_size}
-use Rattle.endless.proofs.Escapes.{move_inside}
+use Rattle.endless.proofs.MovesAt.{move_inside}
 use Rattle.endless.proofs.Sources.{entering_le, entering_past, entering_drop, entering_drop_le, upto_entering, upto_suc, sources_drop, sources_length}
 
 -- how many words a game takes

@@ -1,9 +1,7 @@
 -- An attractor made by going through a queue of places and, at each, through the places that may move to it.
 use Rattle.std.proofs.Common.{◌≡◌, ℕ, suc, ◌⊎◌, List, [], ◌∷◌, sym, refl, subst, inl, inr, arith}
-use Rattle.std.proofs.lemmas.Bool.{cases_eq}
 use Rattle.endless.specs.Games.{Game, whose, Among, first, later, May}
 use Rattle.endless.specs.Sets.{Set, In, Out, Within, minus}
-use Rattle.endless.specs.Subgames.{Subgame}
 use Rattle.endless.specs.Attractors.{Attractor}
 use Rattle.endless.specs.Pulling.{Pulling}
 use Rattle.endless.proofs.Sets.{in_or_out, minus_in, minus_within, minus_out}
@@ -16,8 +14,8 @@ not_among {n} d o (later a) = o a
 
 module _ (g : Game) (U : Set) (w : ℕ) (D : Set) where
   -- before the first: all but the targets is left
-  pub pulling_none : (L : Set) (P : ℕ → Type 0) (plan : ℕ → ℕ) → Subgame g U → Within L U → ((n : ℕ) → In U n → Out L n → In D n) → Within D U → ((n : ℕ) → In D n → Out L n) → ((n : ℕ) → P n → ⊥) → Pulling g U w D L P [] plan
-  pulling_none L P plan sub left targets inside apart none = record {
+  pub pulling_none : (L : Set) (P : ℕ → Type 0) (plan : ℕ → ℕ) → Within L U → ((n : ℕ) → In U n → Out L n → In D n) → Within D U → ((n : ℕ) → In D n → Out L n) → ((n : ℕ) → P n → ⊥) → Pulling g U w D L P [] plan
+  pulling_none L P plan left targets inside apart none = record {
     left = left;
     rank = λ n. 0;
     bound = 1;
@@ -30,7 +28,6 @@ module _ (g : Game) (U : Set) (w : ℕ) (D : Set) where
     };
     passed = λ n p. absurd (none n p);
     no_way_in = λ n m l o e may p. none m p;
-    way_past = λ n l o d. let t = sub.goes_on n (left n l) in (t.0, t.1, t.2, none t.0);
   }
 
   module _ (L : Set) (P : ℕ → Type 0) (plan : ℕ → ℕ) where
@@ -43,7 +40,6 @@ module _ (g : Game) (U : Set) (w : ℕ) (D : Set) where
       so_far = p.so_far;
       passed = λ n q. passed n (which n q);
       no_way_in = λ n m l o e may q. shut n m l o e may (which m q);
-      way_past = λ n l o d. let t = p.way_past n l (λ a. elim a [ ]) d in (t.0, t.1, t.2, λ q. past n t.0 o t.1 t.3 (which t.0 q));
     }
       where
         passed : (n : ℕ) → P n ⊎ (n ≡ to) → Out L n
@@ -57,10 +53,6 @@ module _ (g : Game) (U : Set) (w : ℕ) (D : Set) where
         shut n m l o e may (inl q) = p.no_way_in n m l (λ a. elim a [ ]) e may q
         shut n m l o e may (inr q) = moves_to n m o may q
 
-        past : (n m : ℕ) → (Among n ns → ⊥) → May g n m → (P m → ⊥) → P m ⊎ (m ≡ to) → ⊥
-        past n m o may none (inl q) = none q
-        past n m o may none (inr q) = moves_to n m o may q
-
     -- what has been passed may be said in other words
     pub pulling_as : (Q : ℕ → Type 0) (ns : List ℕ) → ((n : ℕ) → Q n → P n) → Pulling g U w D L P ns plan → Pulling g U w D L Q ns plan
     pulling_as Q ns to p = record {
@@ -70,7 +62,6 @@ module _ (g : Game) (U : Set) (w : ℕ) (D : Set) where
       so_far = p.so_far;
       passed = λ n q. p.passed n (to n q);
       no_way_in = λ n m l o e may q. p.no_way_in n m l o e may (to m q);
-      way_past = λ n l o d. let t = p.way_past n l o d in (t.0, t.1, t.2, λ q. t.3 (to t.0 q));
     }
 
     module _ (k : ℕ) (ns : List ℕ) (p : Pulling g U w D L P (k ∷ ns) plan) where
@@ -83,27 +74,21 @@ module _ (g : Game) (U : Set) (w : ℕ) (D : Set) where
         so_far = p.so_far;
         passed = p.passed;
         no_way_in = λ n m l o. p.no_way_in n m l (not_among (other_place n l) o);
-        way_past = λ n l o. p.way_past n l (not_among (other_place n l) o);
       }
         where
           other_place : (n : ℕ) → In L n → n ≡ k → ⊥
           other_place n l e = out (subst (λ (j : ℕ). In L j) e l)
 
-      -- a place of the other's with a move to what is left stays
-      pub pulling_stays : (m : ℕ) → (whose g k ≡ w → ⊥) → May g k m → In L m → Pulling g U w D L P ns plan
-      pulling_stays m theirs may l = record {
+      -- a place of the other's stays
+      pub pulling_stays : (whose g k ≡ w → ⊥) → Pulling g U w D L P ns plan
+      pulling_stays theirs = record {
         left = p.left;
         rank = p.rank;
         bound = p.bound;
         so_far = p.so_far;
         passed = p.passed;
         no_way_in = λ n j x o e. p.no_way_in n j x (not_among (λ q. theirs (subst (λ (i : ℕ). whose g i ≡ w) q e)) o) e;
-        way_past = λ n x o d. past n x o d (cases_eq n k);
       }
-        where
-          past : (n : ℕ) → In L n → (Among n ns → ⊥) → (whose g n ≡ w → ⊥) → (n ≡ k) ⊎ (n ≡ k → ⊥) → (j : ℕ) × May g n j × In U j × (P j → ⊥)
-          past n x o d (inl e) = (m, subst (λ (i : ℕ). May g i m) (sym e) may, p.left m l, λ q. p.passed m q l)
-          past n x o d (inr e) = p.way_past n x (not_among e o) d
 
       -- a place comes: L is left without it, and the plan moves from it as it should and else as before
       pub pulling_comes : (M : Set) (π : ℕ → ℕ) (c : Comes g U w (minus U L) k) → Out M k → Within M L → ((n : ℕ) → In L n → (n ≡ k) ⊎ In M n) → (whose g k ≡ w → π k ≡ c.move) → ((n : ℕ) → In U n → Out L n → π n ≡ plan n) → Pulling g U w D M P ns π
@@ -114,7 +99,6 @@ module _ (g : Game) (U : Set) (w : ℕ) (D : Set) where
         so_far = added g U w D (minus U L) plan p.rank p.bound p.so_far k c (minus U M) π here keeps was moves same_plan;
         passed = λ n q x. p.passed n q (less n x);
         no_way_in = λ n m x o. p.no_way_in n m (less n x) (not_among (other_place n x) o);
-        way_past = λ n x o. p.way_past n (less n x) (not_among (other_place n x) o);
       }
         where
           other_place : (n : ℕ) → In M n → n ≡ k → ⊥
@@ -140,9 +124,9 @@ module _ (g : Game) (U : Set) (w : ℕ) (D : Set) where
           same_plan : (n : ℕ) → In (minus U L) n → π n ≡ plan n
           same_plan n x = same n (minus_within U L n x) (minus_out U L n x)
 
-    -- where anything is left, all else is passed: it is the attractor
-    pub pulling_all : ((k : ℕ) → In L k → (n : ℕ) → In U n → Out L n → P n) → (p : Pulling g U w D L P [] plan) → Attractor g U w D (minus U L) plan p.rank
-    pulling_all all p = finished g U w D (minus U L) plan p.rank p.bound p.so_far stays
+    -- where anything is left, all else is passed, and what is left has moves that stay in it: it is the attractor
+    pub pulling_all : ((k : ℕ) → In L k → (n : ℕ) → In U n → Out L n → P n) → ((n : ℕ) → In L n → (m : ℕ) × May g n m × In L m) → (p : Pulling g U w D L P [] plan) → Attractor g U w D (minus U L) plan p.rank
+    pulling_all all on p = finished g U w D (minus U L) plan p.rank p.bound p.so_far stays
       where
         is_left : (n : ℕ) → In U n → Out (minus U L) n → In L n ⊎ Out L n → In L n
         is_left n u o (inl l) = l
@@ -154,5 +138,5 @@ module _ (g : Game) (U : Set) (w : ℕ) (D : Set) where
         stays : (n : ℕ) → In U n → Stays g U w (minus U L) n
         stays n u = record {
           no_way_in = λ m u o e may x. let l = is_left n u o (in_or_out L n) in p.no_way_in n m l (λ a. elim a [ ]) e may (gone n m l x);
-          way_past = λ u o d. let l = is_left n u o (in_or_out L n) in let t = p.way_past n l (λ a. elim a [ ]) d in (t.0, t.1, t.2, λ x. t.3 (gone n t.0 l x));
+          way_past = λ u o d. let t = on n (is_left n u o (in_or_out L n)) in (t.0, t.1, p.left t.0 t.2, λ x. minus_out U L t.0 x t.2);
         }

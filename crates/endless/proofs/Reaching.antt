@@ -10,6 +10,8 @@ use Rattle.endless.specs.Says.{side, goes}
 use Rattle.endless.specs.Sets.{Set, In, Out, minus, whole, having}
 use Rattle.endless.specs.Attractors.{Attractor}
 use Rattle.endless.specs.Bits.{members, Removed, Least}
+use Rattle.endless.specs.Graph.{moves as moves-of}
+use Rattle.endless.specs.Ways.{ways, queued, Counted}
 use Rattle.endless.specs.Pulling.{Unchanged, Starts, Moved, Attracts}
 use Rattle.endless.specs.Levels.{Stays, Given}
 use Rattle.endless.specs.declared.desk.Desk.{Desk}
@@ -20,9 +22,12 @@ use Rattle.endless.proofs.Tests.{true_T, T_true}
 use Rattle.endless.proofs.Places.{from_place, has_move, to_place, is_other, not_other, other_below}
 use Rattle.endless.proofs.Sets.{in_or_out, minus_in, minus_within, minus_out, whole_in, whole_place, having_in, having_within, having_is}
 use Rattle.endless.proofs.SetLaws.{members_below}
-use Rattle.endless.proofs.Attractors.{attractor_least, attractor_brings, attractor_past, attractor_plan, attractor_laws}
-use Rattle.endless.proofs.Working.{unchanged_goes, same_side, removed_out, removed_within, removed_which}
+use Rattle.endless.proofs.Attractors.{attractor_least, attractor_brings, attractor_past, attractor_own, attractor_laws}
+use Rattle.endless.proofs.Ways.{ways_alike, total_kept}
+use Rattle.endless.proofs.Removed.{removed_out, removed_within, removed_which}
+use Rattle.endless.proofs.Working.{unchanged_goes, same_side}
 use Rattle.endless.proofs.Gathering.{before, given_same, given_length, given_side, given_stays}
+use Rattle.endless.proofs.Levels.{Frame}
 use Rattle.endless.proofs.Layouts.{filled_whole, whole_filled}
 
 -- ---- the places of a set are given to a side, one after the other
@@ -62,14 +67,24 @@ only_starts {g} {left} {left'} {desk} {target} fresh place rem = record {
   covers = λ n u o. having_in (whole g) (λ n. n) target n u (covers n o (removed_which left target left' rem n (whole_filled g left fresh.are n u)));
   first = λ j h. let e : j ≡ 0 = omega arith in subst (λ (n : ℕ). In (Only g target) n) (sym (ap (λ (i : ℕ). get_or (set desk.queue.now 0 target) i 0) e ∙ here)) (having_in (whole g) (λ n. n) target target (whole_in g target place) refl);
   all = λ n d. (0, omega arith, here ∙ sym (having_is (whole g) (λ n. n) target n d));
+  total = λ ms. total_kept left desk.queue.now 0 target (omega (arith, fresh.queues)) (whole_filled g left fresh.are target (whole_in g target place)) rem refl ms ∙ ways_whole ms;
 }
   where
     here : get_or (set desk.queue.now 0 target) 0 0 ≡ target
     here = get_or-set_same desk.queue.now 0 target 0 (omega (arith, fresh.queues))
 
+    -- all of a game's places, as bits or as a test
+    ways_whole : (ms : List ℕ) → ways (members left) ms + queued desk.queue.now 0 ms ≡ ways (whole g) ms
+    ways_whole ms = omega (arith, ways_alike (members left) (whole g) (filled_whole g left fresh.are) (whole_filled g left fresh.are) ms)
+
     covers : (n : ℕ) → Out (members left') n → (n ≡ target) ⊎ In (members left') n → n ≡ target
     covers n o (inl e) = e
     covers n o (inr x) = absurd (o x)
+
+-- what is counted within the game's places as bits is counted within the game
+pub only_counted : {g : Game} {left left' : List ℕ} {desk : Desk} {target : ℕ} (escapes : List ℕ) → Fresh g left desk → Removed left target left' → Counted g (members left) (members left) escapes → Counted g (whole g) (members left') escapes
+only_counted {g} {left} {left'} {target = target} escapes fresh rem counted n x =
+    counted n (removed_within left target left' rem n x) ∙ ways_alike (members left) (whole g) (filled_whole g left fresh.are) (whole_filled g left fresh.are) (moves-of g n)
 
 -- an attractor of the target, given to w, and what is left, given to the other side with moves that stay there
 module _ {s : List ℕ} {g : Game} (r : Reads s g) {w target : ℕ} (two : w < 2) (place : target < length g) (L : Set) {sides plan rank : ℕ → ℕ} (att : Attractor g (whole g) w (Only g target) (minus (whole g) L) plan rank)
@@ -146,8 +161,8 @@ module _ {s : List ℕ} {g : Game} (r : Reads s g) {w target : ℕ} (two : w < 2
 
 module _ {s : List ℕ} {g : Game} (reads : Reads s g) {w target : ℕ} (two : w < 2) (place : target < length g)
     {left left₁ left₂ queue₁ queue₂ out₁ out₂ out₃ : List ℕ} {desk : Desk} {tail : ℕ} (fresh : Fresh g left desk)
-    (given : Given g w target (members left) desk.out.now out₁) (removed : Removed left target left₁) (moved : Moved left₁ queue₁ out₁ 1 left₂ queue₂ out₂ tail)
-    (attracts : Attracts g (whole g) w (Only g target) left₂ queue₂ out₂ tail) {q : ℕ} (q-is : q ≡ other w) (handed : Handed g q (members left₂) (32 * length left₂) out₂ out₃)
+    (given : Given g w target (members left) desk.out.now out₁) (removed : Removed left target left₁) (moved : Moved left₁ queue₁ 1 left₂ queue₂ tail) (kept : Frame left₁ left₂ out₁ out₂)
+    {escapes₂ : List ℕ} (attracts : Attracts g (whole g) w (Only g target) left₂ queue₂ out₂ escapes₂ tail) {q : ℕ} (q-is : q ≡ other w) (handed : Handed g q (members left₂) (32 * length left₂) out₂ out₃)
     (long₂ : length out₂ ≡ length out₁) (long₃ : length out₃ ≡ length out₂) where
   room : 2 * target + 1 < length desk.out.now
   room = omega (arith, fresh.sized.answers)
@@ -163,7 +178,7 @@ module _ {s : List ℕ} {g : Game} (reads : Reads s g) {w target : ℕ} (two : w
 
   -- the target's words stay as they were written
   target₂ : Unchanged out₁ out₂ target
-  target₂ = moved.frame target (λ x. absurd (removed_out left target left₁ removed x))
+  target₂ = kept target (λ x. absurd (removed_out left target left₁ removed x))
 
   target_side : side out₃ target ≡ w
   target_side = same_side out₂ out₃ target long₃ (handed.frame target gone) ∙ same_side out₁ out₂ target long₂ target₂ ∙ given_side room given
@@ -182,13 +197,13 @@ module _ {s : List ℕ} {g : Game} (reads : Reads s g) {w target : ℕ} (two : w
       go (inr d) = same_side out₂ out₃ n long₃ (handed.frame n o) ∙ attracts.labelled n (whole_in g n l) (λ x. d (having_is (whole g) (λ n. n) target n x)) o
 
   reaches : Reaches g w target (side out₃) (goes out₃)
-  reaches = attractor_reaches reads two place (members left₂) (attractor_plan (goes out₃) (λ n x e. unchanged_goes out₂ out₃ n (handed.frame n (minus_out (whole g) (members left₂) n x))) attracts.attractor)
+  reaches = attractor_reaches reads two place (members left₂) (attractor_own (goes out₃) (λ n x d. unchanged_goes out₂ out₃ n (handed.frame n (minus_out (whole g) (members left₂) n x))) attracts.attractor)
       ours (λ n x. handed.labelled n (inside₂ n x) x ∙ q-is) (λ n x. handed.stays n (inside₂ n x) x) gone target_move
 
   frame : (n : ℕ) → length g ≤ n → Unchanged desk.out.now out₃ n
   frame n h =
       let a = given_same room given n (λ e. omega arith) in
-      let b = moved.frame n (λ x. absurd (omega (arith, inside₁ n x))) in
+      let b = kept n (λ x. absurd (omega (arith, inside₁ n x))) in
       let c = handed.frame n (λ x. omega (arith, inside₁ n (moved.less n x))) in
       (c.0 ∙ b.0 ∙ a.0, c.1 ∙ b.1 ∙ a.1)
 

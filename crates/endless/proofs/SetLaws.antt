@@ -2,7 +2,7 @@
 use Rattle.std.proofs.Common.{◌≡◌, ℕ, zero, suc, ◌+◌, ◌-◌, ◌*◌, ◌/◌, ◌%◌, ◌^◌, ◌<◌, ◌≤◌, Bool, true, false, not, ◌&&◌, ◌||◌, eqb, ◌⊎◌, List, length, get_or, set, replicate, sym, refl, ap, ◌∙◌, subst, ap₂, inl, inr, arith}
 use lib.Bits.{bit_and, bit_or}
 use Rattle.std.proofs.lemmas.Nat.{one_shl, pow_below}
-use Rattle.std.proofs.lemmas.List.{get_or-set_same, get_or-set_other, get_or_past, length-set}
+use Rattle.std.proofs.lemmas.List.{get_or-set_same, get_or-set_other, get_or_past, set-get_or, length-set}
 use Rattle.std.proofs.lemmas.Bool.{cases_eq, cases_lt, both_ways, eq-eqb, ne_eqb}
 use Rattle.endless.specs.Bits.{digit, members, count, size, Inserted, Removed}
 use Rattle.endless.proofs.BitLaws.{digit_none, digit_and, digit_or, digit_power, digit_not}
@@ -158,6 +158,19 @@ removed l i h =
           λ is. size_without l (set l (i / 32) (bit_and (get_or l (i / 32) 0) (2 ^ 32 - 1 - 2 ^ (i % 32)))) i
           (length-set l (i / 32) (bit_and (get_or l (i / 32) 0) (2 ^ 32 - 1 - 2 ^ (i % 32)))) is (remove_are l i h);
     })
+
+-- where nothing is to be taken out the word stays
+pub removed_not : (l : List ℕ) (i : ℕ) → get_or l (i / 32) 0 < 2 ^ 32 → set l (i / 32) (bit_and (get_or l (i / 32) 0) (4294967295 - (0 * 2 ^ (i % 32)) % 2 ^ 32)) ≡ l
+removed_not l i fits = ap (λ (w : ℕ). set l (i / 32) w) stays ∙ set-get_or l (i / 32) 0
+  where
+    word : ℕ
+    word = get_or l (i / 32) 0
+
+    none : (0 * 2 ^ (i % 32)) % 2 ^ 32 ≡ 0
+    none = ap (λ (x : ℕ). x % 2 ^ 32) (native.Mathlib.Nat.zero-mul (2 ^ (i % 32)))
+
+    stays : bit_and word (4294967295 - (0 * 2 ^ (i % 32)) % 2 ^ 32) ≡ word
+    stays = ap (λ (x : ℕ). bit_and word (4294967295 - x)) none ∙ Rattle.std.proofs.lemmas.Nat.and_mask word 32 ∙ (omega (arith, fits))
 
 -- the lowest bit of a word shifted, as a test
 pub has_is : (l : List ℕ) (i : ℕ) → eqb (bit_and (get_or l (i / 32) 0 / 2 ^ (i % 32)) 1) 1 ≡ members l i

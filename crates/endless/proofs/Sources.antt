@@ -2,10 +2,11 @@
 use Rattle.std.proofs.Common.{◌≡◌, ℕ, zero, suc, ◌+◌, ◌*◌, ◌<◌, ◌≤◌, ◌&&◌, T, eqb, ltb, ◌⊎◌, ◌↔◌, List, [], ◌∷◌, ◌++◌, length, get_or, take, drop, replicate, sym, refl, ap, ◌∙◌, subst, ap₂, inl, inr, add_assoc, zero-add, add-one, arith, ltb→lt}
 use Rattle.std.proofs.lemmas.List.{take_more, take-append-drop, length-append, length-replicate}
 use Rattle.std.proofs.lemmas.Bool.{cases_eq}
-use Rattle.endless.specs.Games.{Place, Game, Among, first, later, opt, ok_ps, below, some_of, May}
+use Rattle.endless.specs.Games.{Place, Game, Reads, Among, first, later, opt, ok_ps, below, some_of, May}
 use Rattle.endless.specs.Graph.{moves, times, entering, edges, sources, upto, Preds}
 use Rattle.endless.proofs.CountLaws.{one_if, one_itself, one_other, one_le}
 use Rattle.endless.proofs.Tests.{both}
+use Rattle.endless.proofs.Places.{ok_parts, ok_size}
 use Rattle.endless.proofs.Reading.{there}
 
 -- ---- times
@@ -192,3 +193,11 @@ preds_may g m v = (
 
 pub preds_are : (g : Game) (m : ℕ) (r : List ℕ) → r ≡ sources 0 g m → Preds g m r
 preds_are g m r e = subst (Preds g m) (sym e) (record { are = refl; often = preds_times g m; may = preds_may g m })
+
+-- each place has a move or more
+edges_fine : (n : ℕ) (g : Game) → T (ok_ps n g) → length g ≤ edges g
+edges_fine n [] t = omega arith
+edges_fine n (p ∷ ps) t = let f = ok_parts n p ps t in omega (arith, f.0.moving, edges_fine n ps f.1)
+
+pub edges_long : {s : List ℕ} {g : Game} → Reads s g → length g ≤ edges g
+edges_long {s} {g} r = edges_fine (length g) g (ok_size s g r).2

@@ -16,7 +16,8 @@ use Rattle.endless.proofs.Sets.{in_or_out}
 use Rattle.endless.proofs.Looking.{Lists, may_at}
 use Rattle.endless.proofs.Among.{none_among}
 use Rattle.endless.proofs.Pushed.{pushed_front, pushed_before, pushed_each, pushed_passed}
-use Rattle.endless.proofs.Working.{removed_out, removed_within, removed_still, moved_none, moved_one, moved_then}
+use Rattle.endless.proofs.Removed.{removed_out, removed_within, removed_still}
+use Rattle.endless.proofs.Working.{moved_none, moved_one, moved_then}
 
 -- one step more at the front of a walk
 pub walk_more : (g : Game) (X : Set) (w : ℕ) (plan : ℕ → ℕ) (k n m x : ℕ) → Step g w plan n m → In X n → weight g n ≤ k → (m ≡ x) ⊎ (In X m × Walk g X w plan k m x) → Walk g X w plan k n x
@@ -29,13 +30,13 @@ Visits g w plan k from to tail left queue left' queue' r =
     ((r ≡ tail) × Remained g w plan k from to left queue left' queue') ⊎ ((r ≡ tail + 1) × Joined g w plan k from to tail left queue left' queue')
 
 -- what moved
-visited_moves : (g : Game) (w : ℕ) (plan : ℕ → ℕ) (k from to tail : ℕ) (left queue left' queue' answer : List ℕ) (r : ℕ) → tail + size left ≤ length queue → Visits g w plan k from to tail left queue left' queue' r → Moved left queue answer tail left' queue' answer r
-visited_moves g w plan k from to tail left queue left' queue' answer r space (inl t) =
+visited_moves : (g : Game) (w : ℕ) (plan : ℕ → ℕ) (k from to tail : ℕ) (left queue left' queue' : List ℕ) (r : ℕ) → tail + size left ≤ length queue → Visits g w plan k from to tail left queue left' queue' r → Moved left queue tail left' queue' r
+visited_moves g w plan k from to tail left queue left' queue' r space (inl t) =
     let s = t.1 in
-    rw (s.left_is, s.queue_is, t.0) (moved_none left queue answer tail)
-visited_moves g w plan k from to tail left queue left' queue' answer r space (inr t) =
+    rw (s.left_is, s.queue_is, t.0) (moved_none left queue tail)
+visited_moves g w plan k from to tail left queue left' queue' r space (inr t) =
     let c = t.1 in
-    rw t.0 (moved_one left queue answer tail from left' queue' answer space c.was c.left_is c.queue_is (λ n d. (refl, refl)))
+    rw t.0 (moved_one left queue tail from left' queue' space c.was c.left_is c.queue_is)
 
 -- what is left and steps to `to` is among the places yet to be looked at
 abbrev Awaits : Game → ℕ → (ℕ → ℕ) → ℕ → ℕ → List ℕ → List ℕ → Type 0
@@ -103,9 +104,6 @@ module _ (s t u : SearchBack) (same : Same s t) where
   visits : (from to : ℕ) → Visited t from to u → Visits s.claim.graph.now (number s.claim.side) (goes s.claim.answer.now) s.heaviest from to t.tail t.left.now t.queue.now u.left.now u.queue.now u.tail
   visits from to v = rw (← same.claim, ← same.heaviest) v
 
-  went_then : Went s t → Went t u → Went s u
-  went_then m n = moved_then s.left.now s.queue.now s.claim.answer.now s.tail t.left.now t.queue.now s.claim.answer.now t.tail u.left.now u.queue.now s.claim.answer.now u.tail m (rw (← same.claim) n)
-
   searches : (to : ℕ) → Searched t to u → (X : Set) (x head : ℕ) → head ≤ t.tail → Comes s X to x → Searching s X x head t → Searching s X x head u × ((n : ℕ) → In (members u.left.now) n → weight s.claim.graph.now n ≤ s.heaviest → Step s.claim.graph.now (number s.claim.side) (goes s.claim.answer.now) n to → ⊥)
   searches to z = rw (← same.claim, ← same.heaviest) z
 
@@ -122,8 +120,8 @@ visiting_more {s} {t} {u} {to} {items} {i} lists h so_far same visited =
     let c = s.claim in
     record {
       same = same_then s t u so_far.same same;
-      went = moved_then s.left.now s.queue.now c.answer.now s.tail t.left.now t.queue.now c.answer.now t.tail u.left.now u.queue.now c.answer.now u.tail so_far.went
-          (visited_moves c.graph.now (number c.side) (goes c.answer.now) s.heaviest (get_or items i 0) to t.tail t.left.now t.queue.now u.left.now u.queue.now c.answer.now u.tail t.room v);
+      went = moved_then s.left.now s.queue.now s.tail t.left.now t.queue.now t.tail u.left.now u.queue.now u.tail so_far.went
+          (visited_moves c.graph.now (number c.side) (goes c.answer.now) s.heaviest (get_or items i 0) to t.tail t.left.now t.queue.now u.left.now u.queue.now u.tail t.room v);
       works = λ X x head o comes work.
           let here = so_far.works X x head o comes work in
           tracing_step c.graph.now (number c.side) (goes c.answer.now) s.heaviest (get_or items i 0) to t.tail t.left.now t.queue.now u.left.now u.queue.now X x head (may_at c.graph.now to items lists i h) (omega (arith, so_far.went.grows)) comes here.0 (drop (i + 1) items)
@@ -147,7 +145,7 @@ pub queued_more : {s t u : SearchBack} {head : ℕ} → head < t.tail → Queued
 queued_more {s} {t} {u} {head} h so_far same went searched = record {
   order = omega (arith, went.grows);
   same = same_then s t u so_far.same same;
-  went = went_then s t u so_far.same so_far.went went;
+  went = moved_then s.left.now s.queue.now s.tail t.left.now t.queue.now t.tail u.left.now u.queue.now u.tail so_far.went went;
   works =
       let work = so_far.works in
       let r = searches s t u so_far.same (get_or t.queue.now head 0) searched (members s.left.now) (get_or s.queue.now 0 0) head (omega arith) (work.queued head h) work in

@@ -1,6 +1,8 @@
 -- A game in words as a graph: where each place's words start, and which places may move to a place.
 use Rattle.std.specs.Prelude.{◌≡◌, ℕ, zero, suc, ◌+◌, ◌-◌, ◌*◌, ◌^◌, ◌<◌, ◌≤◌, cond, ◌↔◌, List, [], ◌∷◌, ◌++◌, map, length, take, drop, replicate, ◌==◌, slice_index, slice_index_or}
-use Rattle.endless.specs.Games.{Place, Game, Among, May, nth, opt, row}
+use Rattle.endless.specs.Games.{Place, Game, Among, May, nth, opt, row, whose, weight}
+use Rattle.endless.specs.Sets.{In}
+use Rattle.endless.specs.Bits.{members}
 use Rattle.endless.specs.View.{words_of}
 
 -- numbers that may take 64 bits, each in two words, the low one first
@@ -89,3 +91,19 @@ pub record Ready (g : Game) (ends preds : List ℕ) : Type 0 where
   pub long : length ends ≡ length g + 1
   pub sums : (m : ℕ) → m < length g + 1 → slice_index ends m ≡ upto (entering g) (suc m)
   pub top : edges g ≤ length preds
+
+-- a set has the places of side 1 of the first k, and no others
+abbrev pub OddTo : Game → ℕ → List ℕ → Type 0
+OddTo g k odd = (n : ℕ) → (In (members odd) n ↔ ((n < k) × (whose g n ≡ 1)))
+
+-- the weights of the first k places stand in the words, which are no greater than weights are
+abbrev pub WeightsTo : Game → ℕ → List ℕ → Type 0
+WeightsTo g k weights = (n : ℕ) → n < k → (slice_index weights n ≡ weight g n) × (slice_index weights n < 256)
+
+-- whose each place is, and its weight, in words of their own
+pub record Noted (g : Game) (odd weights : List ℕ) : Type 0 where
+  pub wide : length g ≤ 32 * length odd
+  pub are_odd : OddTo g (length g) odd
+  pub two : (n : ℕ) → n < length g → whose g n < 2
+  pub long : length g ≤ length weights
+  pub weigh : WeightsTo g (length g) weights

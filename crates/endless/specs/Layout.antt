@@ -3,7 +3,9 @@ use Rattle.std.specs.Prelude.{◌≡◌, ℕ, ◌+◌, ◌*◌, ◌/◌, ◌^◌
 use Rattle.endless.specs.Games.{Game, Reads, weight}
 use Rattle.endless.specs.Graph.{edges}
 use Rattle.endless.specs.View.{words_of, Playable}
+use Rattle.endless.specs.Sets.{whole}
 use Rattle.endless.specs.Bits.{members, size}
+use Rattle.endless.specs.Ways.{Counted}
 use Rattle.endless.specs.Weights.{kinds}
 use Rattle.endless.specs.Pulling.{Sized}
 use Rattle.endless.specs.Levels.{levels}
@@ -15,9 +17,9 @@ use Rattle.endless.specs.declared.layout.Short.{Short}
 abbrev pub width : ℕ → ℕ
 width n = (n + 31) / 32
 
--- how many words the parts take together for n places, m moves and d different weights: where the places start; where their predecessor lists start, and these; the queue and the cursors; the set of all places and one for each level
+-- how many words the parts take together for n places, m moves and d different weights: where the places start; which are side 1's, and the weights; where their predecessor lists start, and these; the queue with one place more, as many words beside it, and a number for each place; the set of all places and one for each level
 abbrev pub needed : ℕ → ℕ → ℕ → ℕ
-needed n m d = ((n + n) + ((n + 1) + (n + 1) + m)) + ((n + n) + (d + 1) * width n)
+needed n m d = ((n + n) + (width n + n) + ((n + 1) + (n + 1) + m)) + (((n + 1) + (n + 1) + n) + (d + 1) * width n)
 
 -- how many words have to be lent for a game: 65,536, and 4 for each of its words
 abbrev pub lent_for : Game → ℕ
@@ -36,30 +38,34 @@ abbrev pub OutRoomIs : ℕ → ℕ → Result (Unit {0}) Short → Type 0
 OutRoomIs n given (Ok u) = 2 * n ≤ given
 OutRoomIs n given (Err e) = (e.needed ≡ 2 * n) × (e.given ≡ given) × (given < 2 * n)
 
--- a game is laid out in so many lent words: its graph, room for its queue and its cursors, the set of all places, and room for a set for each level; these parts take what is needed, and no more
+-- a game is laid out in so many lent words: its graph, room for its queue and as many words beside it, how many moves each place has, the set of all places, and room for a set for each level; these parts take what is needed, and no more
 pub record LaidOut (lent : ℕ) (g : Game) (r : Layout) : Type 0 where
   pub is : r.graph ≡ g
   pub playable : Playable g
   pub taken : needed (length g) (edges g) 0 + length r.rest.now ≡ lent
-  pub queue : length g ≤ length r.queue.now
+  pub queue : length g < length r.queue.now
+  pub via : length g < length r.via.now
   pub escapes : length g ≤ length r.escapes.now
+  pub counted : Counted r.graph (whole r.graph) (whole r.graph) r.escapes.now
   pub are : (j : ℕ) → members r.all.now j ≡ nat_lt j (length g)
   pub many : size r.all.now ≡ length g
   pub wide : length r.all.now ≡ width (length g)
   pub rest : kinds g * width (length g) ≤ length r.rest.now
   pub spare : 2 * width (length g) + (length g + 1) ≤ length r.rest.now
 
--- what a game was laid out in has room to solve it within a set of its places: a queue and cursors for its places, this set, and a set for each level
-pub record Fits (g : Game) (queue escapes set rest : List ℕ) : Type 0 where
-  pub queues : length g ≤ length queue
-  pub cursors : length g ≤ length escapes
+-- what a game was laid out in has room to solve it within a set of its places: a queue and as many words beside it, a number for each place, this set, and a set for each level
+pub record Fits (g : Game) (queue via escapes set rest : List ℕ) : Type 0 where
+  pub queues : length g < length queue
+  pub beside : length g < length via
+  pub counts : length g ≤ length escapes
   pub wide : length set ≡ width (length g)
   pub sets : kinds g * width (length g) ≤ length rest
 
--- a game to begin with: the set of all its places, and room for them in an answer, a queue and the cursors
+-- a game to begin with: the set of all its places, and room for them in an answer, a queue, the words beside it and the numbers of moves
 pub record Fresh (g : Game) (all : List ℕ) (desk : Desk) : Type 0 where
   pub are : (j : ℕ) → members all j ≡ nat_lt j (length g)
   pub many : size all ≡ length g
   pub sized : Sized g all desk.out.now desk.escapes.now
-  pub queues : length g ≤ length desk.queue.now
+  pub queues : length g < length desk.queue.now
+  pub beside : length g < length desk.via.now
   pub small : 32 * length all < 2 ^ 32

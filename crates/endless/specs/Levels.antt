@@ -80,11 +80,12 @@ pub record Reduces (g : Game) (U L : Set) (out : List ℕ) : Type 0 where
   pub rest : Subgame g L
   pub solves : (o : List ℕ) → length o ≡ length out → ((n : ℕ) → Out L n → Unchanged out o n) → Solves g L (side o) (goes o) → Solves g U (side o) (goes o)
 
--- a set of places of a game, and room for them in an answer, the cursors and the queue
+-- a set of places of a game, and room for them in an answer, the numbers of moves, the queue and the words beside it
 pub record Lent (g : Game) (own : List ℕ) (desk : Desk) : Type 0 where
   pub inside : (n : ℕ) → In (members own) n → n < length g
   pub sized : Sized g own desk.out.now desk.escapes.now
-  pub queues : size own ≤ length desk.queue.now
+  pub queues : size own < length desk.queue.now
+  pub beside : size own < length desk.via.now
   pub small : 32 * length own < 2 ^ 32
 
 -- how many different weights below a bound occur in a game
@@ -96,6 +97,7 @@ pub record Room (g : Game) (bound : ℕ) (own rest : List ℕ) (desk : Desk) : T
   pub subgame : Subgame g (members own)
   pub light : (n : ℕ) → In (members own) n → weight g n < bound
   pub sized : Sized g own desk.out.now desk.escapes.now
-  pub queues : size own ≤ length desk.queue.now
+  pub queues : size own < length desk.queue.now
+  pub beside : size own < length desk.via.now
   pub small : 32 * length own < 2 ^ 32
   pub sets : levels g bound * length own ≤ length rest

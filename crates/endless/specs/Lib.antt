@@ -13,6 +13,7 @@ pub mod Answers
 pub mod Bits
 pub mod Weights
 pub mod Graph
+pub mod Ways
 pub mod Growing
 pub mod View
 pub mod Pulling

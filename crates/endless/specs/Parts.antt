@@ -1,10 +1,10 @@
 -- A closed part of a subgame: all that can be come to from a place.
-use Rattle.std.specs.Prelude.{◌≡◌, ℕ, ◌+◌, ◌*◌, ◌<◌, ◌≤◌, ◌⊎◌, ◌↔◌, List, length, Some, None, Option, option_map, unwrap_or, ◌≢◌, slice_index, slice_set}
+use Rattle.std.specs.Prelude.{◌≡◌, ℕ, ◌+◌, ◌*◌, ◌<◌, ◌≤◌, Bool, true, false, ◌⊎◌, ◌↔◌, List, length, Some, None, Option, option_map, unwrap_or, ◌≢◌, slice_index, slice_set}
 use Rattle.std.specs.Option.{ForSome}
 use Rattle.std.specs.Iterator.{AlwaysYields}
 use Rattle.endless.specs.Games.{Game}
 use Rattle.endless.specs.Says.{side}
-use Rattle.endless.specs.Sets.{Set, In, Within}
+use Rattle.endless.specs.Sets.{Set, In, Out, Within}
 use Rattle.endless.specs.Subgames.{Closed}
 use Rattle.endless.specs.Sides.{number}
 use Rattle.endless.specs.Bits.{members, size, Removed}
@@ -74,3 +74,13 @@ abbrev pub PickedIf : (ℕ → ℕ) → ℕ → ℕ → ℕ → List ℕ → Lis
 PickedIf f k n count left queue left' queue' r =
     ((r ≡ count) × (left' ≡ left) × (queue' ≡ queue) × (In (members left) n → f n ≢ k))
     ⊎ ((r ≡ count + 1) × In (members left) n × (f n ≡ k) × Removed left n left' × (queue' ≡ slice_set queue count n))
+
+-- whether a set has a place
+abbrev pub Any : Set → Bool → Type 0
+Any D true = (n : ℕ) × In D n
+Any D false = (n : ℕ) → Out D n
+
+-- whether f is k at any of the first i places of a list
+abbrev pub AnyAt : (ℕ → ℕ) → ℕ → List ℕ → ℕ → Bool → Type 0
+AnyAt f k list i true = (j : ℕ) × (j < i) × (f (slice_index list j) ≡ k)
+AnyAt f k list i false = (j : ℕ) → j < i → f (slice_index list j) ≢ k

@@ -46,7 +46,7 @@ Visited s from to s' =
 
 -- places went from what is left to the end of the queue
 abbrev pub Went : SearchBack → SearchBack → Type 0
-Went s s' = Moved s.left.now s.queue.now s.claim.answer.now s.tail s'.left.now s'.queue.now s.claim.answer.now s'.tail
+Went s s' = Moved s.left.now s.queue.now s.tail s'.left.now s'.queue.now s'.tail
 
 -- a search, gone through up to `head`, among the places of X for x, as a search begun as s goes about it
 abbrev pub Searching : SearchBack → Set → ℕ → ℕ → SearchBack → Type 0

@@ -1,11 +1,11 @@
 //! From where a side can bring every play to some targets: attractors.
-ghost use Rattle.std.specs.Prelude.{◌≡◌, ℕ, ◌+◌, ◌*◌, ◌^◌, ◌<◌, ◌≤◌, true, false, length, MatchOption, slice_index};
+ghost use Rattle.std.specs.Prelude.{◌≡◌, ℕ, ◌+◌, ◌*◌, ◌<◌, ◌≤◌, true, false, length, MatchOption, slice_index};
 ghost use Rattle.endless.specs.Sets.{Set, In};
-ghost use Rattle.endless.specs.Subgames.{Subgame};
 ghost use Rattle.endless.specs.Sides.{number};
 ghost use Rattle.endless.specs.Bits.{members, size};
 ghost use Rattle.endless.specs.Desks.{SameDesk};
-ghost use Rattle.endless.specs.Pulling.{Escapes, Sized, Moved, Starts, Attracts};
+ghost use Rattle.endless.specs.Ways.{Counted, Open, Untouched};
+ghost use Rattle.endless.specs.Pulling.{Sized, Moved, Unchanged, Starts, Labelled, Attracts};
 
 use crate::bits;
 use crate::desk::Desk;
@@ -20,37 +20,10 @@ pub(crate) fn first_into(moves: &[u32], set: &[u32]) -> Option<usize>
     moves.iter().position(|to| bits::has(set, *to))
 }
 
-/// The first move that leads into the set, going round from `start`.
-fn round_into(moves: &[u32], set: &[u32], start: usize) -> Option<usize>
-    requires inside { (k : ℕ) → k < length moves.now → slice_index moves.now k < 32 * length set.now }
-    ensures { MatchOption result ((k : ℕ) → k < length moves.now → members set.now (slice_index moves.now k) ≡ false) (λ k. (k < length moves.now) × (members set.now (slice_index moves.now k) ≡ true)) }
-{
-    let (before, behind) = moves.split_at(start.min(moves.len()));
-    match first_into(behind, set) {
-        Some(k) => Some(before.len() + k),
-        None => first_into(before, set),
-    }
-}
-
-/// Whether `place` has a move into what is left. Where the last one was
-/// found is kept in `escapes`, and is looked at first.
-fn escapes_from(graph: &Graph, place: u32, left: &[u32], escapes: &mut [u32]) -> bool
-    requires place { place < length graph.now }
-    requires sets { length graph.now ≤ 32 * length left.now }
-    requires cursors { length graph.now ≤ length escapes.old }
-    ensures { Escapes graph.now place left.now result }
-{
-    match round_into(graph.moves(place), left, escapes[place as usize] as usize) {
-        Some(k) => {
-            escapes[place as usize] = (k & 0xffff_ffff) as u32;
-            true
-        }
-        None => false,
-    }
-}
-
-/// An attractor that is being made: what is left of a subgame, the answer so
-/// far, and the places that are attracted, in the order in which they were.
+/// An attractor that is being made: what is left of a subgame, the places that
+/// are attracted, in the order in which they were, with a move beside each, and
+/// for each place that is left how many ways out it still has: of its moves
+/// within the subgame those that no place was looked at for.
 // The fields of the desk, and not the desk: tried, and behind a second
 // reference how long the queue may be is not known, so `tail` might wrap.
 #[derive(Drop)]
@@ -58,40 +31,41 @@ struct Attraction<'g, 'r> {
     graph: &'g Graph<'g>,
     side: Side,
     left: &'r mut [u32],
-    out: &'r mut [u32],
     queue: &'r mut [u32],
+    via: &'r mut [u32],
     escapes: &'r mut [u32],
     tail: usize,
-    ghost sized: { Sized graph.now left.now out.now escapes.now },
-    ghost room: { tail + size left.now ≤ length queue.now },
+    ghost sets: { length graph.now ≤ 32 * length left.now },
+    ghost counts: { length graph.now ≤ length escapes.now },
+    ghost room: { tail + size left.now < length queue.now },
+    ghost beside: { tail + size left.now < length via.now },
+    ghost escaping: { Open (members left.now) escapes.now },
 }
 
 impl Attraction<'_, '_> {
-    ghost use Rattle.endless.specs.Attraction.{Same, Pulls, Moves, Looks, Brings};
+    ghost use Rattle.endless.specs.Attraction.{Same, Pulls, Moves, Keeps, Looks, Brings};
 
     /// Looks at `from`, which may move to `to`, of which the side can bring about
-    /// the targets: a place of that side is taken with this move, one of the
-    /// other's where no move of it leads into what is left.
+    /// the targets, so that by this move it does not escape: a place of that side
+    /// is taken with it, one of the other's with its last way out.
+    // No branch: whether a place is taken cannot be foretold, and to foretell it
+    // wrongly costs more than all else here. So it is written behind the queue in
+    // any case, and the queue grows where it is taken.
     fn pull(&mut self, from: u32, to: u32)
         requires from { from < length self.old.graph.now }
         ensures same { Same self.old self.new }
         ensures pulls { Pulls self.old from to self.new }
     {
         let left = &mut *self.left;
-        if !bits::has(left, from) {
-            return;
-        }
-        if !self.graph.is_own(self.side, from) {
-            let escapes = &mut *self.escapes;
-            if escapes_from(self.graph, from, left, escapes) {
-                return;
-            }
-        }
-        bits::remove(left, from);
-        self.out[2 * from as usize] = u32::from(self.side);
-        self.out[2 * from as usize + 1] = to;
+        let is_left = bits::has(left, from);
+        let escapes = &mut *self.escapes;
+        let ways = escapes[from as usize] - u32::from(is_left);
+        escapes[from as usize] = ways;
+        let is_taken = is_left & ((ways == 0) | self.graph.is_own(self.side, from));
+        bits::remove_if(left, from, is_taken);
         self.queue[self.tail] = from;
-        self.tail += 1;
+        self.via[self.tail] = to;
+        self.tail += usize::from(is_taken);
     }
 
     /// Looks at all places that may move to `to`.
@@ -99,6 +73,7 @@ impl Attraction<'_, '_> {
         requires to { to < length self.old.graph.now }
         ensures same { Same self.old self.new }
         ensures moves { Moves self.old self.new }
+        ensures keeps { Keeps self.old self.new }
         ensures looks { Looks self.old to self.new }
     {
         for from in self.graph.preds(to) {
@@ -114,6 +89,7 @@ impl Attraction<'_, '_> {
         requires counted { all ≡ self.old.tail + size self.old.left.now }
         ensures same { Same self.old self.new }
         ensures moves { Moves self.old self.new }
+        ensures keeps { Keeps self.old self.new }
         ensures brings { Brings self.old self.new }
     {
         let mut head = 0;
@@ -130,12 +106,30 @@ impl Attraction<'_, '_> {
     }
 }
 
+/// Gives the places of the queue between two indices to `side`, each with the
+/// move beside it.
+fn label(side: Side, queue: &[u32], via: &[u32], from: usize, to: usize, out: &mut [u32])
+    requires order { from ≤ to }
+    requires queue { to ≤ length queue.now }
+    requires via { to ≤ length via.now }
+    requires inside { (j : ℕ) → from ≤ j → j < to → 2 * slice_index queue.now j + 1 < length out.old }
+    ensures { Labelled (number side) queue.now via.now from to out.old out.new }
+{
+    for i in from..to {
+        let place = queue[i] as usize;
+        out[2 * place] = u32::from(side);
+        out[2 * place + 1] = via[i];
+    }
+}
+
 /// Takes from what is left of a subgame all places from which `side` can
 /// bring every play to one of the targets, which are the first places of the
 /// queue: they follow there, and the answer gives them to `side`, with a move
 /// for each of its own. The number of places in the queue then; `all` is how
-/// many there would be with all that is left.
-pub fn attract_counted(
+/// many there would be with all that is left. `desk.escapes` tells of each
+/// place that is left how many of its moves stay in the subgame, and afterwards
+/// how many stay in what is left.
+pub fn attract(
     graph: &Graph,
     side: Side,
     left: &mut [u32],
@@ -146,42 +140,30 @@ pub fn attract_counted(
     requires sized { Sized graph.now left.old desk.old.out.now desk.old.escapes.now }
     requires inside { (n : ℕ) → In (members left.old) n → n < length graph.now }
     requires targets { (j : ℕ) → j < targets → slice_index desk.old.queue.now j < length graph.now }
-    requires room { targets + size left.old ≤ length desk.old.queue.now }
+    requires room { targets + size left.old < length desk.old.queue.now }
+    requires beside { targets + size left.old < length desk.old.via.now }
     requires counted { all ≡ targets + size left.old }
+    requires escaping { Open (members left.old) desk.old.escapes.now }
     ensures same { SameDesk desk.old desk.new }
-    ensures moved { Moved left.old desk.old.queue.now desk.old.out.now targets left.new desk.new.queue.now desk.new.out.now result }
-    ensures attracts { (U D : Set) → Subgame graph.now U → Starts U D left.old desk.old.queue.now targets → Attracts graph.now U (number side) D left.new desk.new.queue.now desk.new.out.now result }
+    ensures moved { Moved left.old desk.old.queue.now targets left.new desk.new.queue.now result }
+    ensures frame { (n : ℕ) → (In (members left.old) n → In (members left.new) n) → Unchanged desk.old.out.now desk.new.out.now n }
+    ensures kept { Untouched (members left.old) desk.old.escapes.now desk.new.escapes.now }
+    ensures attracts { (U D : Set) → Starts U D left.old desk.old.queue.now targets → Counted graph.now U (members left.old) desk.old.escapes.now → Attracts graph.now U (number side) D left.new desk.new.queue.now desk.new.out.now desk.new.escapes.now result }
 {
     let mut attraction = Attraction {
         graph: &*graph,
         side,
         left,
-        out: &mut *desk.out,
         queue: &mut *desk.queue,
+        via: &mut *desk.via,
         escapes: &mut *desk.escapes,
         tail: targets,
     };
     attraction.attract(all);
-    attraction.tail
-}
-
-/// Does what `attract_counted` does, and counts what is left first.
-pub fn attract(
-    graph: &Graph,
-    side: Side,
-    left: &mut [u32],
-    desk: &mut Desk,
-    targets: usize,
-) -> usize
-    requires sized { Sized graph.now left.old desk.old.out.now desk.old.escapes.now }
-    requires inside { (n : ℕ) → In (members left.old) n → n < length graph.now }
-    requires targets { (j : ℕ) → j < targets → slice_index desk.old.queue.now j < length graph.now }
-    requires room { targets + size left.old ≤ length desk.old.queue.now }
-    requires small { 32 * length left.old < 2 ^ 32 }
-    ensures same { SameDesk desk.old desk.new }
-    ensures moved { Moved left.old desk.old.queue.now desk.old.out.now targets left.new desk.new.queue.now desk.new.out.now result }
-    ensures attracts { (U D : Set) → Subgame graph.now U → Starts U D left.old desk.old.queue.now targets → Attracts graph.now U (number side) D left.new desk.new.queue.now desk.new.out.now result }
-{
-    let all = targets + bits::count(left) as usize;
-    attract_counted(graph, side, left, desk, targets, all)
+    let taken = attraction.tail;
+    let queue = &mut *desk.queue;
+    let via = &mut *desk.via;
+    let out = &mut *desk.out;
+    label(side, queue, via, targets, taken, out);
+    taken
 }

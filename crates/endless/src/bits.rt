@@ -30,6 +30,16 @@ pub fn remove(set: &mut [u32], i: u32)
     set[(i / 32) as usize] &= !(1 << (i % 32));
 }
 
+/// Takes `i` out of the set, if that is so.
+// No branch: see `Attraction::pull`.
+pub fn remove_if(set: &mut [u32], i: u32, is_so: bool)
+    requires { i / 32 < length set.old }
+    ensures removed { is_so ≡ true → Removed set.old i set.new }
+    ensures kept { is_so ≡ false → set.new ≡ set.old }
+{
+    set[(i / 32) as usize] &= !(u32::from(is_so) << (i % 32));
+}
+
 /// How many members the set has.
 pub fn count(set: &[u32]) -> u32
     requires { 32 * length set.now < 2 ^ 32 }

@@ -3,21 +3,23 @@ ghost use Rattle.std.specs.Prelude.{◌≡◌, ℕ, ◌+◌, ◌*◌, ◌%◌, �
 ghost use Rattle.std.specs.Option.{ForSome};
 ghost use Rattle.endless.specs.Games.{other};
 ghost use Rattle.endless.specs.Says.{side, goes};
-ghost use Rattle.endless.specs.Sets.{Set, In, Out, Within};
+ghost use Rattle.endless.specs.Sets.{Set, In, Out, Within, minus};
 ghost use Rattle.endless.specs.Subgames.{Subgame, Closed, Solves};
 ghost use Rattle.endless.specs.Sides.{number};
 ghost use Rattle.endless.specs.Bits.{members, size};
+ghost use Rattle.endless.specs.Ways.{Counted, Open, Untouched};
 ghost use Rattle.endless.specs.Pulling.{Unchanged, Sized};
 ghost use Rattle.endless.specs.Desks.{SameDesk};
 ghost use Rattle.endless.specs.Levels.{HeaviestIn, Lent, Brought, Peeled, Peels, Room};
 ghost use Rattle.endless.specs.Parts.{Listed, Part, Saved};
 ghost use Rattle.endless.specs.View.{Playable};
 
-use crate::attractor::attract_counted;
+use crate::attractor::attract;
 use crate::bits;
 use crate::closed::take_part;
 use crate::desk::Desk;
-use crate::gather::{gather_part, gather_targets, heaviest_in};
+use crate::escapes::count_ways;
+use crate::gather::{gather_part, gather_targets, heaviest_in, is_any_wanted};
 use crate::graph::Graph;
 use crate::order::{Effort, Order, find_start};
 use crate::side::Side;
@@ -70,17 +72,21 @@ fn bring_about_part(
     requires part { Part own.now (option_copied list) (members left.old) }
     requires counted { unwrap_or (option_map length (option_copied list)) many ≡ size left.old }
     requires same { length left.old ≡ length own.now }
+    requires escapes { Counted graph.now (members own.now) (members left.old) desk.old.escapes.now }
+    requires escaping { Open (members left.old) desk.old.escapes.now }
     ensures heaviest { 0 < size left.old → HeaviestIn graph.now (members left.old) result.0 }
     ensures rest { result.1 ≡ size left.new }
     ensures same { SameDesk desk.old desk.new }
     ensures frame { (n : ℕ) → Out (members left.old) n → Unchanged desk.old.out.now desk.new.out.now n }
+    ensures kept { Untouched (members left.old) desk.old.escapes.now desk.new.escapes.now }
+    ensures escapes { Closed graph.now (members own.now) (members left.old) → Counted graph.now (members left.new) (members left.new) desk.new.escapes.now }
     ensures brought { Subgame graph.now (members own.now) → Closed graph.now (members own.now) (members left.old) → Brought graph.now (members left.old) (result.0 % 2) result.0 (members left.new) desk.new.out.now }
 {
     let weight = heaviest_in(graph, list, left);
     let side = Side::of_weight(weight);
     let targets = gather_targets(graph, side, weight, list, own, left, desk.out, desk.queue);
     let all = part_size(list, many);
-    let taken = attract_counted(graph, side, left, desk, targets, all);
+    let taken = attract(graph, side, left, desk, targets, all);
     (weight, all - taken)
 }
 
@@ -96,13 +102,16 @@ fn peel_won(
     desk: &mut Desk,
 ) -> usize
     requires lent { Lent graph.now own.old desk.old }
-    requires part { (R : Set) × Part own.old (option_copied list) R }
+    requires part { (R : Set) × Part own.old (option_copied list) R × Counted graph.now (members own.old) (minus (members own.old) R) desk.old.escapes.now }
     requires counted { many ≡ size own.old }
+    requires subgame { Subgame graph.now (members own.old) }
     ensures rest { result ≡ size own.new }
     ensures falls { 0 < size own.old → size own.new < size own.old }
     ensures less { Within (members own.new) (members own.old) }
     ensures same { SameDesk desk.old desk.new }
     ensures frame { (n : ℕ) → Out (members own.old) n → Unchanged desk.old.out.now desk.new.out.now n }
+    ensures kept { Untouched (members own.old) desk.old.escapes.now desk.new.escapes.now }
+    ensures escapes { Counted graph.now (members own.new) (members own.new) desk.new.escapes.now }
     ensures peeled { (R : Set) → Subgame graph.now (members own.old) → Part own.old (option_copied list.entry) R → Peeled graph.now (members own.old) (number winner) R (members own.new) desk.old.out.now desk.new.out.now }
 {
     match list {
@@ -111,7 +120,7 @@ fn peel_won(
             // what `desk` lends is lent as `&`, the borrow checker has no rule for
             // lending another as `&mut`.
             let targets = gather_part(None, list, own, &mut *desk.out, desk.queue);
-            let taken = attract_counted(graph, winner, own, desk, targets, many);
+            let taken = attract(graph, winner, own, desk, targets, many);
             many - taken
         }
         None => {
@@ -134,23 +143,27 @@ fn peel_part(
     desk: &mut Desk,
 ) -> usize
     requires lent { Lent graph.now own.old desk.old }
-    requires part { (R : Set) × Part own.old (option_copied list) R }
+    requires part { (R : Set) × Part own.old (option_copied list) R × Counted graph.now (members own.old) (minus (members own.old) R) desk.old.escapes.now }
     requires counted { many ≡ size own.old }
+    requires subgame { Subgame graph.now (members own.old) }
     ensures rest { result ≡ size own.new }
     ensures falls { 0 < size own.old → size own.new < size own.old }
     ensures less { Within (members own.new) (members own.old) }
     ensures same { SameDesk desk.old desk.new }
     ensures frame { (n : ℕ) → Out (members own.old) n → Unchanged desk.old.out.now desk.new.out.now n }
+    ensures kept { Untouched (members own.old) desk.old.escapes.now desk.new.escapes.now }
+    ensures escapes { Counted graph.now (members own.new) (members own.new) desk.new.escapes.now }
     ensures peels { (R : Set) → Subgame graph.now (members own.old) → Part own.old (option_copied list.entry) R → Peels graph.now (members own.old) R (number winner) (other (number winner)) (members own.new) desk.old.out.now desk.new.out.now }
 {
     let loser = winner.other();
     // The answer is lent as `&mut` for the reason in `peel_won`.
-    let lost = gather_part(Some(loser), list, own, &mut *desk.out, desk.queue);
-    if lost == 0 {
-        peel_won(graph, winner, many, list, own, desk)
-    } else {
-        let taken = attract_counted(graph, loser, own, desk, lost, many);
+    if is_any_wanted(Some(loser), list, own, &mut *desk.out) {
+        count_ways(graph, list, own, desk.escapes);
+        let lost = gather_part(Some(loser), list, own, &mut *desk.out, desk.queue);
+        let taken = attract(graph, loser, own, desk, lost, many);
         many - taken
+    } else {
+        peel_won(graph, winner, many, list, own, desk)
     }
 }
 
@@ -175,8 +188,10 @@ pub fn level_by_parts(
     requires counted { many ≡ size own.old }
     requires listed { ForSome within (λ list. Listed own.old list.now) }
     requires playable { Playable graph.now }
+    requires escapes { Counted graph.now (members own.old) (members own.old) desk.old.escapes.now }
     ensures same { SameDesk desk.old desk.new }
     ensures frame { (n : ℕ) → Out (members own.old) n → Unchanged desk.old.out.now desk.new.out.now n }
+    ensures kept { Untouched (members own.old) desk.old.escapes.now desk.new.escapes.now }
     ensures solves { Subgame graph.now (members own.old) → Solves graph.now (members own.old) (side desk.new.out.now) (goes desk.new.out.now) }
 {
     let places = graph.places();
@@ -184,14 +199,7 @@ pub fn level_by_parts(
     let mut remaining = many;
     while remaining > 0 {
         let start = find_start(
-            places,
-            own,
-            remaining,
-            spare,
-            desk.queue,
-            desk.escapes,
-            &mut order,
-            effort,
+            places, own, remaining, spare, desk.queue, &mut order, effort,
         );
         let (_, free) = spare.split_at_mut(order.kept.min(spare.len()));
         let (left, deeper) = rest.split_at_mut(own.len());

@@ -7,7 +7,7 @@ ghost use Rattle.endless.specs.Sides.{number};
 ghost use Rattle.endless.specs.Bits.{members, size, Least, NoneFrom};
 ghost use Rattle.endless.specs.Pulling.{Unchanged, Starts};
 ghost use Rattle.endless.specs.Levels.{HeaviestIn, HeaviestOf, GatheredIn, Fitting, Given, Stays};
-ghost use Rattle.endless.specs.Parts.{Told, Covers, Gives, Part, wanted, mark};
+ghost use Rattle.endless.specs.Parts.{Told, Covers, Gives, Part, Any, AnyAt, wanted, mark};
 
 use crate::attractor::first_into;
 use crate::bits;
@@ -126,7 +126,7 @@ impl Gathering<'_, '_> {
 /// Puts the places of a weight of a part into the queue: by the list, if there
 /// is one.
 // Two slices of the desk, here and below: with the desk each contract would
-// have a clause more, that the cursors stay, for one parameter less.
+// have a clause more, that the numbers of moves stay, for one parameter less.
 pub(crate) fn gather_targets(
     graph: &Graph,
     side: Side,
@@ -176,6 +176,39 @@ fn is_wanted(winner: Option<Side>, out: &[u32], place: u32) -> bool
     match winner {
         Some(side) => out[2 * place as usize] == u32::from(side),
         None => true,
+    }
+}
+
+/// Whether any of these places is wanted.
+fn is_any<I: Iterator<Item = u32> + Drop>(winner: Option<Side>, places: I, out: &[u32]) -> bool
+    requires can { I.can_next places }
+    requires ends { IsFinite (I.remaining places) }
+    requires inside { (list : List ℕ) × Gives I.next_gives places list × ((j : ℕ) → j < length list → 2 * slice_index list j < length out.now) }
+    ensures { (list : List ℕ) → Gives I.next_gives places list → AnyAt (wanted winner out.now) (mark winner) list (length list) result }
+{
+    for place in places {
+        if is_wanted(winner, out, place) {
+            return true;
+        }
+    }
+    false
+}
+
+/// Whether any place of a part is wanted: by the list, if there is one.
+pub(crate) fn is_any_wanted(
+    winner: Option<Side>,
+    list: Option<&[u32]>,
+    set: &[u32],
+    out: &[u32],
+) -> bool
+    requires part { (R : Set) × Part set.now (option_copied list) R }
+    requires answers { (n : ℕ) → In (members set.now) n → 2 * n < length out.now }
+    requires small { 32 * length set.now < 2 ^ 32 }
+    ensures { (R : Set) → Part set.now (option_copied list.entry) R → Any (having R (wanted winner out.now) (mark winner)) result }
+{
+    match list {
+        Some(list) => is_any(winner, list.iter().copied(), out),
+        None => is_any(winner, bits::iter(set), out),
     }
 }
 

@@ -1,10 +1,11 @@
 //! A game in words as a graph: where each place's words start, and which places may move to a place.
-ghost use Rattle.std.specs.Prelude.{◌≡◌, ℕ, suc, ◌+◌, ◌^◌, ◌<◌, ◌≤◌, List, ◌∷◌, length, drop, ◌==◌, slice_index};
+ghost use Rattle.std.specs.Prelude.{◌≡◌, ℕ, suc, ◌+◌, ◌*◌, ◌^◌, ◌<◌, ◌≤◌, List, ◌∷◌, length, drop, ◌==◌, slice_index};
 ghost use Rattle.endless.specs.Games.{Place, row, whose, weight};
-ghost use Rattle.endless.specs.Graph.{positions, moves, Placed, Preds, times, upto, Filling, Room, Counts, Entered, entering, edges, Ready, Listed};
+ghost use Rattle.endless.specs.Graph.{positions, moves, Placed, Preds, times, upto, Filling, Room, Counts, Entered, entering, edges, Ready, Listed, OddTo, WeightsTo};
 ghost use Rattle.endless.specs.Sides.{number};
 ghost use Rattle.endless.specs.View.{Playable};
 
+use crate::bits;
 use crate::place::Head;
 use crate::positions::{Halves, halves, position};
 use crate::side::Side;
@@ -14,7 +15,8 @@ use std::marker::Model;
 /// The moves of the place that these words begin with.
 fn first_moves(words: &[u32]) -> &[u32]
     requires { (p : Place) × (ps : List Place) × (words.now ≡ row (p ∷ ps)) }
-    ensures { (p : Place) (ps : List Place) → words.now ≡ row (p ∷ ps) → result.now ≡ p.moves }
+    ensures are { (p : Place) (ps : List Place) → words.now ≡ row (p ∷ ps) → result.now ≡ p.moves }
+    ensures few { length result.now < 2 ^ 32 }
 {
     &words[3..3 + words[2] as usize]
 }
@@ -101,6 +103,7 @@ impl<'a> Places<'a> {
     pub fn moves(&self, n: u32) -> &'a [u32]
         requires { n < length self.now }
         ensures moves { result.now ≡ moves self.now n }
+        ensures few { length result.now < 2 ^ 32 }
         ensures playable { Playable self.now }
     {
         first_moves(self.words_from(n))
@@ -119,36 +122,53 @@ impl<'a> Places<'a> {
 }
 
 /// A game as a graph: its places, and for each place the list of those that may move to it. In contracts it is the game.
+// Whose a place is and its weight are asked for most. They stand in words of their own besides, as the places' words lie
+// far apart.
 #[derive(Drop)]
 pub struct Graph<'a> {
     places: Places<'a>,
+    odd: &'a [u32],
+    weights: &'a [u32],
     offsets: &'a [Halves],
     preds: &'a [u32],
 }
 
 impl<'a> Model for Graph<'a> {
     ghost use Rattle.endless.specs.Games.{Game};
-    ghost use Rattle.endless.specs.Graph.{positions, Listed};
+    ghost use Rattle.endless.specs.Graph.{positions, Listed, Noted};
 
     ghost Value = { Game };
 
     ghost view = { λ v. v.places };
 
-    ghost invariant = { λ v. Listed v.places (positions v.offsets.now) v.preds.now };
+    ghost invariant = { λ v. Listed v.places (positions v.offsets.now) v.preds.now × Noted v.places v.odd.now v.weights.now };
 }
 
 impl<'a> Graph<'a> {
-    /// The graph of these places; `offsets` and `preds` are lent for the lists.
-    pub fn new(places: Places<'a>, offsets: &'a mut [Halves], preds: &'a mut [u32]) -> Graph<'a>
+    /// The graph of these places; `odd` and `weights` are lent for whose they are and what they weigh, `offsets` and
+    /// `preds` for the lists.
+    pub fn new(
+        places: Places<'a>,
+        odd: &'a mut [u32],
+        weights: &'a mut [u32],
+        offsets: &'a mut [Halves],
+        preds: &'a mut [u32],
+    ) -> Graph<'a>
+        requires odd { length places ≤ 32 * length odd.old }
+        requires weights { length places ≤ length weights.old }
         requires offsets { length offsets.old ≡ length places + 1 }
         requires preds { edges places ≤ length preds.old }
         ensures { result ≡ places.entry }
     {
+        gather_odd(&places, odd);
+        list_weights(&places, weights);
         count_entering(&places, offsets);
         sum_up(offsets);
         list_sources(&places, offsets, preds);
         Graph {
             places,
+            odd,
+            weights,
             offsets,
             preds,
         }
@@ -161,8 +181,8 @@ impl<'a> Graph<'a> {
         &self.places
     }
 
-    // What the places tell, as it stands there: the same through `places()`
-    // would be a call more at each of some thirty uses, and no plainer.
+    // What the places tell: the same through `places()` would be a call more at each
+    // of some thirty uses, and no plainer.
 
     /// How many places there are.
     pub fn len(&self) -> u32
@@ -189,7 +209,7 @@ impl<'a> Graph<'a> {
         ensures weight { result ≡ weight self.now n }
         ensures light { result < 256 }
     {
-        self.places.weight(n)
+        self.weights[n as usize]
     }
 
     /// Whether it is this side's move at a place.
@@ -197,13 +217,18 @@ impl<'a> Graph<'a> {
         requires { n < length self.now }
         ensures { result ≡ (whose self.now n == number side) }
     {
-        self.places.is_own(side, n)
+        let is_odd = bits::has(self.odd, n);
+        match side {
+            Side::Even => !is_odd,
+            Side::Odd => is_odd,
+        }
     }
 
     /// The moves of a place.
     pub fn moves(&self, n: u32) -> &'a [u32]
         requires { n < length self.now }
         ensures moves { result.now ≡ moves self.now n }
+        ensures few { length result.now < 2 ^ 32 }
         ensures playable { Playable self.now }
     {
         self.places.moves(n)
@@ -217,6 +242,30 @@ impl<'a> Graph<'a> {
         let from = position(self.offsets[m as usize]);
         let to = position(self.offsets[m as usize + 1]);
         &self.preds[from..to]
+    }
+}
+
+/// Makes the set the places of side 1.
+fn gather_odd(places: &Places, odd: &mut [u32])
+    requires { length places.now ≤ 32 * length odd.old }
+    ensures are { OddTo places.now (length places.now) odd.new }
+    ensures two { (n : ℕ) → n < length places.now → whose places.now n < 2 }
+{
+    bits::fill(odd, 0);
+    for place in 0..places.len() {
+        if places.is_own(Side::Odd, place) {
+            bits::insert(odd, place);
+        }
+    }
+}
+
+/// Writes down the weight of each place.
+fn list_weights(places: &Places, weights: &mut [u32])
+    requires { length places.now ≤ length weights.old }
+    ensures { WeightsTo places.now (length places.now) weights.new }
+{
+    for place in 0..places.len() {
+        weights[place as usize] = places.weight(place);
     }
 }
 

@@ -4,6 +4,7 @@ ghost use Rattle.endless.specs.Says.{side, goes};
 ghost use Rattle.endless.specs.Sets.{Out, whole};
 ghost use Rattle.endless.specs.Subgames.{Subgame, Solves};
 ghost use Rattle.endless.specs.Bits.{members};
+ghost use Rattle.endless.specs.Ways.{Counted};
 ghost use Rattle.endless.specs.Pulling.{Unchanged};
 ghost use Rattle.endless.specs.Weights.{kinds};
 ghost use Rattle.endless.specs.View.{Playable};
@@ -13,6 +14,7 @@ ghost use Rattle.endless.specs.Accepting.{Accepts};
 use crate::accepted::Accepted;
 use crate::by_parts::level_by_parts;
 use crate::desk::Desk;
+use crate::escapes::{count_moves, count_ways};
 use crate::graph::{Graph, Places};
 use crate::order::Effort;
 use crate::refusal::Refusal;
@@ -56,12 +58,14 @@ pub fn out_room(places: u32, given: usize) -> Result<(), Short>
     Ok(())
 }
 
-/// A game laid out in the lent words: its graph, a queue and cursors for its
-/// places, the set of all of them, and what is left of the words.
+/// A game laid out in the lent words: its graph, a queue for its places and one
+/// more, as many words for what stands beside them, how many moves each place
+/// has, the set of all of them, and what is left of the words.
 #[derive(Drop)]
 pub struct Layout<'a> {
     pub graph: Graph<'a>,
     pub queue: &'a mut [u32],
+    pub via: &'a mut [u32],
     pub escapes: &'a mut [u32],
     pub all: &'a mut [u32],
     pub rest: &'a mut [u32],
@@ -78,17 +82,22 @@ pub fn lay_out<'a>(accepted: Accepted<'a>) -> Layout<'a>
     let (starts, work) = work.split_at_mut(2 * places);
     let (starts, _) = starts.as_chunks_mut::<2>();
     let view = Places::new(game, starts);
+    let (odd, work) = work.split_at_mut(places.div_ceil(32));
+    let (weights, work) = work.split_at_mut(places);
     let (offsets, work) = work.split_at_mut(2 * (places + 1));
     let (preds, work) = work.split_at_mut(moves);
     let (offsets, _) = offsets.as_chunks_mut::<2>();
-    let graph = Graph::new(view, offsets, preds);
-    let (queue, work) = work.split_at_mut(places);
+    let graph = Graph::new(view, odd, weights, offsets, preds);
+    let (queue, work) = work.split_at_mut(places + 1);
+    let (via, work) = work.split_at_mut(places + 1);
     let (escapes, work) = work.split_at_mut(places);
+    count_moves(&graph, escapes);
     let (all, rest) = work.split_at_mut(places.div_ceil(32));
     bits::fill(all, graph.len());
     Layout {
         graph,
         queue,
+        via,
         escapes,
         all,
         rest,
@@ -96,13 +105,15 @@ pub fn lay_out<'a>(accepted: Accepted<'a>) -> Layout<'a>
 }
 
 impl Layout<'_> {
-    /// Solves the game within the places in `all`: cuts a set for each of the
-    /// game's levels, and goes through these.
+    /// Solves the game within the places in `all`, of whose moves `escapes` has how
+    /// many stay there: cuts a set for each of the game's levels, and goes through
+    /// these.
     fn solve(self, levels: usize, out: &mut [u32])
         requires levels { levels ≡ kinds self.graph }
-        requires fits { Fits self.graph self.queue.now self.escapes.now self.all.now self.rest.now }
+        requires fits { Fits self.graph self.queue.now self.via.now self.escapes.now self.all.now self.rest.now }
         requires playable { Playable self.graph }
         requires subgame { Subgame self.graph (members self.all.now) }
+        requires escapes { Counted self.graph (members self.all.now) (members self.all.now) self.escapes.now }
         requires out { 2 * length self.graph ≤ length out.old }
         ensures frame { (n : ℕ) → Out (members self.entry.all.now) n → Unchanged out.old out.new n }
         ensures solves { Solves self.entry.graph (members self.entry.all.now) (side out.new) (goes out.new) }
@@ -110,6 +121,7 @@ impl Layout<'_> {
         let Layout {
             graph,
             queue,
+            via,
             escapes,
             all,
             rest,
@@ -120,6 +132,7 @@ impl Layout<'_> {
         let mut desk = Desk {
             out,
             queue,
+            via,
             escapes,
         };
         level_by_parts(
@@ -156,7 +169,23 @@ pub fn solve_within(accepted: Accepted, set: &[u32], out: &mut [u32])
     ensures solves { Solves accepted.entry.game (members set.now) (side out.new) (goes out.new) }
 {
     let levels = weights::levels(&accepted.game);
-    let mut layout = lay_out(accepted);
-    bits::copy(set, &mut *layout.all);
+    let Layout {
+        graph,
+        queue,
+        via,
+        escapes,
+        all,
+        rest,
+    } = lay_out(accepted);
+    bits::copy(set, all);
+    count_ways(&graph, None, set, escapes);
+    let layout = Layout {
+        graph,
+        queue,
+        via,
+        escapes,
+        all,
+        rest,
+    };
     layout.solve(levels, out);
 }

@@ -11,6 +11,7 @@ ghost use Rattle.endless.specs.Levels.{Room};
 use crate::bits;
 use crate::by_parts::level_by_parts;
 use crate::desk::Desk;
+use crate::escapes::count_ways;
 use crate::graph::Graph;
 use crate::order::Effort;
 
@@ -28,6 +29,7 @@ pub fn level(graph: &Graph, bound: u32, own: &mut [u32], rest: &mut [u32], desk:
 {
     let many = bits::count(own) as usize;
     let (spare, sets) = rest.split_at_mut(0);
+    count_ways(graph, None, own, desk.escapes);
     let mut effort = Effort::new(graph.len());
     level_by_parts(
         graph,

@@ -19,6 +19,7 @@ pub mod closed;
 mod components;
 pub mod desk;
 pub mod dominion;
+mod escapes;
 pub mod examination;
 pub mod flaw;
 pub mod gather;

@@ -112,18 +112,18 @@ fn make_order<'a>(
     size: usize,
     spare: &'a mut [u32],
     queue: &'a mut [u32],
-    cursors: &'a mut [u32],
     effort: &mut Effort,
 ) -> Order
     requires { 32 * length own.now < 2 ^ 32 }
 {
     let all = places.len() as usize;
     effort.spend(size);
-    if size <= SMALL || effort.steps < effort.next || spare.len() < all.saturating_add(size) {
+    if size <= SMALL || effort.steps < effort.next || spare.len() < (2 * all).saturating_add(size) {
         return Order::default();
     }
-    let front = spare.len() - all;
-    let (list, numbers) = spare.split_at_mut(front);
+    let front = spare.len() - 2 * all;
+    let (list, spare) = spare.split_at_mut(front);
+    let (numbers, cursors) = spare.split_at_mut(all);
     clear(own, numbers);
     let mut listing = Listing {
         places,
@@ -154,14 +154,13 @@ pub fn find_start(
     size: usize,
     spare: &mut [u32],
     queue: &mut [u32],
-    cursors: &mut [u32],
     order: &mut Order,
     effort: &mut Effort,
 ) -> Option<u32>
     requires { 32 * length own.now < 2 ^ 32 }
 {
     if order.at >= order.kept {
-        *order = make_order(places, own, size, spare, queue, cursors, effort);
+        *order = make_order(places, own, size, spare, queue, effort);
     }
     order.kept = order.kept.min(spare.len());
     let kept = &spare[0..order.kept];

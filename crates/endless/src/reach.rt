@@ -14,6 +14,7 @@ use crate::accepted::Accepted;
 use crate::answer::PlaceId;
 use crate::attractor::attract;
 use crate::desk::Desk;
+use crate::escapes::count_ways;
 use crate::gather::give;
 use crate::graph::Graph;
 use crate::layout::Layout;
@@ -54,6 +55,7 @@ fn divide_game(accepted: Accepted, winner: Side, target: u32, out: &mut [u32])
     let Layout {
         graph,
         queue,
+        via,
         escapes,
         all,
         ..
@@ -61,6 +63,7 @@ fn divide_game(accepted: Accepted, winner: Side, target: u32, out: &mut [u32])
     let mut desk = Desk {
         out,
         queue,
+        via,
         escapes,
     };
     divide(&graph, winner, target, all, &mut desk);
@@ -77,10 +80,12 @@ fn divide(graph: &Graph, winner: Side, target: u32, left: &mut [u32], desk: &mut
     ensures frame { (n : ℕ) → length graph.now ≤ n → Unchanged desk.old.out.now desk.new.out.now n }
     ensures reaches { Reaches graph.now (number winner) target (side desk.new.out.now) (goes desk.new.out.now) }
 {
+    count_ways(graph, None, left, desk.escapes);
     give(graph, winner, target, left, desk.out);
     bits::remove(left, target);
     desk.queue[0] = target;
-    attract(graph, winner, left, desk, 1);
+    let all = graph.len() as usize;
+    attract(graph, winner, left, desk, 1, all);
     give_all(graph, winner.other(), left, desk.out);
 }
 

@@ -1,10 +1,12 @@
 -- The lent words have room for what parting the places needs.
 use Rattle.std.proofs.Common.{◌≡◌, ℕ, ◌+◌, ◌*◌, ◌≤◌, length, ap, arith}
 use Rattle.endless.specs.Games.{Game}
+use Rattle.endless.specs.Graph.{edges}
 use Rattle.endless.specs.Layout.{LaidOut}
 use Rattle.endless.specs.View.{Playable, words_of}
 use Rattle.endless.specs.declared.layout.Layout.{Layout}
 use Rattle.endless.proofs.Places.{ok_size}
+use Rattle.endless.proofs.Sources.{edges_long}
 use Rattle.quotient.proofs.Merging.{words_long}
 
 -- eight lists of places, one more word, and a set
@@ -15,4 +17,4 @@ rest_room {g = g} laid enough k is playable n e =
     let long = words_long g in
     let taken = laid.taken in
     let wide = laid.wide in
-    omega (arith, size.0, size.1)
+    omega (arith, size.1, edges_long playable, ap edges is)

@@ -1,6 +1,6 @@
-use Rattle.std.proofs.Common.{refl, arith}
+use Rattle.std.proofs.Common.{arith}
 use Rattle.endless.proofs.Tests.{true_T}
-use Rattle.endless.proofs.Escapes.{move_at, move_inside, escapes_none}
+use Rattle.endless.proofs.MovesAt.{move_at, move_inside, none_into}
 use Rattle.endless.proofs.gather.move_within.Goals as goal
 
 pub first_into-requires : goal.first_into-requires
@@ -13,4 +13,4 @@ returns-in-Some c = λ k may x.
     (move_at c.args.graph.now c.args.place c.moves-moves.result.now c.moves-moves.ensures.moves c.in-Some.k t.0, true_T _ t.1)
 
 pub returns-in-None : goal.returns-in-None
-returns-in-None c = λ k may x. absurd ((escapes_none {g = c.args.graph.now} {n = c.args.place} c.moves-moves.ensures.moves c.in-None.ensures).no_way refl k may x)
+returns-in-None c = λ k may x. absurd (none_into c.args.graph.now c.args.place c.args.set.now c.moves-moves.result.now c.moves-moves.ensures.moves c.in-None.ensures k may x)

@@ -2,7 +2,7 @@ use Rattle.std.proofs.Common.{length, ◌∷◌, [], get_or, sym, ap, ◌∙◌,
 use Rattle.std.proofs.lemmas.List.{ext_get_or}
 use Rattle.endless.specs.Graph.{positions}
 use Rattle.endless.proofs.PositionLaws.{positions_none}
-use Rattle.endless.proofs.Escapes.{move_inside}
+use Rattle.endless.proofs.MovesAt.{move_inside}
 use Rattle.endless.proofs.Preds.{counting_start, counting_fits, counting_more}
 use Rattle.endless.proofs.graph.count_entering.Goals as goal
 

@@ -4,7 +4,7 @@ use Rattle.endless.specs.Games.{May}
 use Rattle.endless.specs.Bits.{members}
 use Rattle.endless.proofs.Tests.{true_T, T_true}
 use Rattle.endless.proofs.Places.{to_place}
-use Rattle.endless.proofs.Escapes.{move_at, move_inside}
+use Rattle.endless.proofs.MovesAt.{move_at, move_inside}
 use Rattle.endless.proofs.Working.{goes_at}
 use Rattle.endless.proofs.Looks.{found_among, not_among, plan_may, may_plan, goes_in, goes_out, stays_own, stays_other}
 use Rattle.endless.proofs.claim.Claim.look_at.Goals as goal

@@ -1,6 +1,6 @@
 use Rattle.std.proofs.Common.{ℕ, ◌≡◌, ◌≤◌, List, length, ap, subst, arith}
 use Rattle.endless.specs.Bits.{size}
-use Rattle.endless.proofs.Escapes.{move_inside}
+use Rattle.endless.proofs.MovesAt.{move_inside}
 use Rattle.endless.proofs.Parts.{listing_few, going_none, going_more, going_all}
 use Rattle.endless.proofs.closed.Growing.close.Goals as goal
 
