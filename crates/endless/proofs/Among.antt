@@ -19,3 +19,7 @@ none_among m (x ∷ xs) e a = let z : ◌≡◌ {A = ℕ} 0 1 = cc in omega arit
 pub only_among : (m x : ℕ) → Among m (x ∷ []) → m ≡ x
 only_among m x first = refl
 only_among m x (later a) = elim a [ ]
+
+pub among_rest : {m x : ℕ} {xs : List ℕ} → (m ≡ x → ⊥) → Among m (x ∷ xs) → Among m xs
+among_rest d first = absurd (d refl)
+among_rest d (later a) = a

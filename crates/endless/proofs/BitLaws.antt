@@ -1,13 +1,14 @@
 -- The bits of a word: of a conjunction, a disjunction, a complement and powers of two, and the lowest bit that is set.
-use Rattle.std.proofs.Common.{◌≡◌, ℕ, zero, suc, ◌+◌, ◌-◌, ◌/◌, ◌%◌, ◌^◌, ◌<◌, ◌≤◌, min, max, true, false, cond, not, ◌&&◌, ◌||◌, eqb, ltb, sym, refl, ap, ◌∙◌, pow-suc, div-one, arith, pow_mono}
+use Rattle.std.proofs.Common.{◌≡◌, ℕ, zero, suc, ◌+◌, ◌-◌, ◌/◌, ◌%◌, ◌^◌, ◌<◌, ◌≤◌, min, max, true, false, cond, not, Bool, ◌&&◌, ◌||◌, eqb, ltb, ◌⊎◌, sym, refl, ap, ◌∙◌, ap₂, inl, inr, pow-suc, div-one, arith, pow_mono, eqb→eq}
 use native.Mathlib.Nat.{zero-div}
 use lib.Dec.{eqb-suc-suc, leb-suc-suc, leb-suc-zero, eqb-zero-suc, eqb-suc-zero}
 use lib.Bits.{bit_and, bit_or, and_step, or_step}
 use lib.Count.{count_trailing_zeros, under}
 use lib.Count.{ones, ones_step}
 use Rattle.std.proofs.lemmas.Nat.{shr-shr, and_shr, or_shr, mod-mul-add, div_below, pow_pos}
-use Rattle.std.proofs.lemmas.Bool.{lt-ltb}
+use Rattle.std.proofs.lemmas.Bool.{cases_eq, lt-ltb, eq-eqb, both_ways}
 use Rattle.endless.specs.Bits.{digit, count}
+use Rattle.endless.proofs.Tests.{true_T}
 use Rattle.endless.proofs.CountLaws.{count_zero, count_front, count_same}
 
 -- the lowest bit, and the bits above it
@@ -157,3 +158,43 @@ trailing_lt (suc n) w h p = go (w % 2) refl (trailing_lt n (w / 2) (omega (arith
     go : (d : ℕ) → w % 2 ≡ d → (0 < w / 2 → count_trailing_zeros n (w / 2) < n) → under d (count_trailing_zeros n (w / 2)) < suc n
     go zero e rest = let k : count_trailing_zeros n (w / 2) < n = rest (omega arith) in omega arith
     go (suc d) e rest = omega arith
+
+-- that bit cleared: of the word and the one before it, the bits that both have
+odd : (w : ℕ) → digit w 0 ≡ true → w % 2 ≡ 1
+odd w is = eqb→eq (w % 2) 1 (true_T _ (sym (digit_zero w) ∙ is))
+
+even : (w : ℕ) → digit w 0 ≡ false → w % 2 ≡ 0
+even w is = go (cases_eq (w % 2) 1)
+  where
+    go : (w % 2 ≡ 1) ⊎ (w % 2 ≡ 1 → ⊥) → w % 2 ≡ 0
+    go (inl e) = absurd (both_ways (eqb (w % 2) 1) (sym (digit_zero w) ∙ is) (eq-eqb (w % 2) 1 e))
+    go (inr d) = omega arith
+
+cleared_here : (a : Bool) {b c : Bool} → b ≡ false → c ≡ true → (a && b) ≡ (not c && a)
+cleared_here true e is = rw (e, is) refl
+cleared_here false e is = rw is refl
+
+cleared_above : (a : Bool) {b c : Bool} → b ≡ a → c ≡ false → (a && b) ≡ (not c && a)
+cleared_above true e is = rw (e, is) refl
+cleared_above false e is = rw is refl
+
+cleared_below : {a : Bool} (b c : Bool) → a ≡ false → (a && b) ≡ (not c && a)
+cleared_below b true e = rw e refl
+cleared_below b false e = rw e refl
+
+cleared : (b w k : ℕ) → digit w b ≡ true → ((j : ℕ) → j < b → digit w j ≡ false) → (digit w k && digit (w - 1) k) ≡ (not (eqb k b) && digit w k)
+cleared zero w zero is none =
+    cleared_here (digit w 0) (digit_zero (w - 1) ∙ ap (λ x. eqb x 1) (let e : (w - 1) % 2 ≡ 0 = omega (arith, odd w is) in e)) (eq-eqb 0 0 refl)
+cleared zero w (suc k) is none =
+    cleared_above (digit w (suc k))
+    (digit_suc (w - 1) k ∙ ap (λ x. digit x k) (let e : (w - 1) / 2 ≡ w / 2 = omega (arith, odd w is) in e) ∙ sym (digit_suc w k))
+    (eqb-suc-zero k)
+cleared (suc b) w zero is none = cleared_below (digit (w - 1) 0) (eqb 0 (suc b)) (none 0 (omega arith))
+cleared (suc b) w (suc k) is none =
+    ap₂ (λ x y. x && y) (digit_suc w k)
+    (digit_suc (w - 1) k ∙ ap (λ x. digit x k) (let e : (w - 1) / 2 ≡ w / 2 - 1 = omega (arith, even w (none 0 (omega arith))) in e))
+    ∙ cleared b (w / 2) k (sym (digit_suc w b) ∙ is) (λ j h. sym (digit_suc w j) ∙ none (suc j) (omega arith))
+    ∙ ap₂ (λ c a. not c && a) (sym (eqb-suc-suc k b)) (sym (digit_suc w k))
+
+pub digit_cleared : (w b k : ℕ) → digit w b ≡ true → ((j : ℕ) → j < b → digit w j ≡ false) → digit (bit_and w (w - 1)) k ≡ (not (eqb k b) && digit w k)
+digit_cleared w b k is none = digit_and w (w - 1) k ∙ cleared b w k is none

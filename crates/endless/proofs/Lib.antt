@@ -48,6 +48,7 @@ mod Parts
 mod Gathering
 mod Picking
 mod MemberLists
+mod Behind
 mod Recounting
 mod Layouts
 pub mod Solving

@@ -1,40 +1,68 @@
 -- The members of a set as a list, as its iterator gives them; the heaviest of a list.
-use Rattle.std.proofs.Common.{◌≡◌, ℕ, zero, suc, ◌+◌, ◌-◌, ◌*◌, ◌<◌, ◌≤◌, Bool, true, false, cond, ◌⊎◌, List, [], ◌∷◌, Option, Some, None, max, map, fold, option_map, unwrap_or, length, get_or, sym, refl, ap, ◌∙◌, subst, inl, inr, arith}
-use Rattle.std.proofs.lemmas.Bool.{cases_eq, cases_lt, both_ways}
+use Rattle.std.proofs.Common.{◌≡◌, ℕ, zero, suc, ◌+◌, ◌-◌, ◌*◌, ◌^◌, ◌<◌, ◌≤◌, Bool, true, false, cond, not, ◌&&◌, eqb, ◌⊎◌, List, [], ◌∷◌, Option, Some, None, max, map, fold, option_map, unwrap_or, length, get_or, sym, refl, ap, ◌∙◌, subst, ap₂, inl, inr, arith}
+use lib.Bits.{bit_and}
+use lib.Count.{count_trailing_zeros}
+use Rattle.std.proofs.lemmas.Bool.{cases_eq, cases_lt, both_ways, eq-eqb, ne_eqb}
 use Rattle.std.proofs.lemmas.Iterator.{YieldsList}
-use Rattle.std.proofs.lemmas.Iterator.Consumers.{YieldsList-from_shown}
-use Rattle.std.specs.Option.{MatchOption}
+use Rattle.std.proofs.lemmas.Iterator.Consumers.{YieldsList-from_first}
+use Rattle.std.specs.Iterator.{YieldsFirst}
 use Rattle.std.specs.List.{reduce}
 use Rattle.std.proofs.lemmas.Iterator.Adapters.{option_map_id}
 use Rattle.endless.specs.Games.{Game, weight}
 use Rattle.endless.specs.Levels.{HeaviestOf}
-use Rattle.endless.specs.Bits.{members, Least, NoneFrom}
+use Rattle.endless.specs.Bits.{members, Least}
+use Rattle.endless.specs.Listed.{listed, listed_from, members_left}
 use Rattle.endless.specs.Pulling.{Passed}
 use Rattle.endless.specs.Sets.{Set}
 use Rattle.endless.specs.Parts.{Told, Part}
 use Rattle.endless.specs.declared.bits.Members.{Members}
 use Rattle.endless.proofs.Tests.{T_true, true_T}
 use Rattle.endless.proofs.SetLaws.{members_below}
+use Rattle.endless.proofs.Scans.{members_cons, members_head}
+use Rattle.endless.proofs.BitLaws.{digit_none, digit_cleared, trailing_below, trailing_at, trailing_lt}
 
--- the members of a set, of n places from i on
-abbrev pub listed : (ℕ → Bool) → ℕ → ℕ → List ℕ
-listed f i zero = []
-listed f i (suc n) = cond (f i) (i ∷ listed f (suc i) n) (listed f (suc i) n)
+-- of no places
+listed_zero : (f : ℕ → Bool) (i : ℕ) → listed f i 0 ≡ []
+unfolding listed
+listed_zero f i = refl
 
-pub listed_none : (f : ℕ → Bool) (i n : ℕ) → NoneFrom f i → listed f i n ≡ []
-listed_none f i zero none = refl
-listed_none f i (suc n) none = rw (none i (omega arith)) (listed_none f (suc i) n (λ j h. none j (omega arith)))
+-- two sets that agree from i on
+listed_same : (f h : ℕ → Bool) (i n : ℕ) → ((j : ℕ) → i ≤ j → f j ≡ h j) → listed f i n ≡ listed h i n
+unfolding listed
+listed_same f h i zero same = refl
+listed_same f h i (suc n) same = rw (same i (omega arith), listed_same f h (suc i) n (λ j l. same j (omega arith))) refl
 
-pub listed_first : (f : ℕ → Bool) (i n m k : ℕ) → Least f i m → i + n ≡ m + suc k → listed f i n ≡ m ∷ listed f (m + 1) k
-listed_first f i zero m k least e = absurd (omega (arith, least.after))
-listed_first f i (suc n) m k least e = go (cases_eq i m) (λ d. listed_first f (suc i) n m k (record { after = omega (arith, least.after); is = least.is; none = λ j h l. least.none j (omega arith) l }) (omega arith))
+-- where none stands from i up to m
+listed_past : (f : ℕ → Bool) (i n m k : ℕ) → i ≤ m → i + n ≡ m + k → ((j : ℕ) → i ≤ j → j < m → f j ≡ false) → listed f i n ≡ listed f m k
+unfolding listed
+listed_past f i zero m k l e none = let here : m ≡ i = omega arith in let end : k ≡ 0 = omega arith in rw (here, end) refl
+listed_past f i (suc n) m k l e none = go (cases_lt i m) (λ h. listed_past f (suc i) n m k (omega arith) (omega arith) (λ j a. none j (omega arith)))
   where
-    go : (i ≡ m) ⊎ (i ≡ m → ⊥) → ((i ≡ m → ⊥) → listed f (suc i) n ≡ m ∷ listed f (m + 1) k) → listed f i (suc n) ≡ m ∷ listed f (m + 1) k
-    go (inl s) later = let same : n ≡ k = omega arith in let next : m + 1 ≡ suc m = omega arith in rw (s, same, least.is, next) refl
-    go (inr d) later = rw (least.none i (omega arith) (omega (arith, least.after))) (later d)
+    go : (i < m) ⊎ (m ≤ i) → (i < m → listed f (suc i) n ≡ listed f m k) → listed f i (suc n) ≡ listed f m k
+    go (inl h) later = rw (none i (omega arith) h) (later h)
+    go (inr h) later = let here : m ≡ i = omega arith in let rest : k ≡ suc n = omega arith in rw (here, rest) refl
+
+-- the least of a set, and the set without it
+module _ (f h : ℕ → Bool) (i n m k : ℕ) (least : Least f i m) (e : i + n ≡ m + suc k) (without : (j : ℕ) → i ≤ j → h j ≡ (not (eqb j m) && f j)) where
+  gone : (j : ℕ) → i ≤ j → j < suc m → (j ≡ m) ⊎ (j ≡ m → ⊥) → h j ≡ false
+  gone j a l (inl s) = without j a ∙ ap (λ b. not b && f j) (eq-eqb j m s)
+  gone j a l (inr d) = without j a ∙ ap₂ (λ b c. not b && c) (ne_eqb j m d) (least.none j a (omega arith))
+
+  same : (j : ℕ) → suc m ≤ j → f j ≡ h j
+  same j l = sym (without j (omega (arith, least.after)) ∙ ap (λ b. not b && f j) (ne_eqb j m (omega arith)))
+
+  first_behind : listed f m (suc k) ≡ m ∷ listed f (suc m) k
+  unfolding listed
+  first_behind = rw least.is refl
+
+  pub listed_least : listed f i n ≡ m ∷ listed h i n
+  listed_least =
+      listed_past f i n m (suc k) least.after e least.none ∙ first_behind
+      ∙ ap (λ l. m ∷ l) (listed_same f h (suc m) k same ∙ sym (listed_past h i n (suc m) k (omega (arith, least.after)) (omega arith) (λ j a l. gone j a l (cases_eq j m))))
 
 -- each member stands in the list, and nothing else does
 pub listed_has : (f : ℕ → Bool) (i n j : ℕ) → i ≤ j → j < i + n → f j ≡ true → Passed (listed f i n) (length (listed f i n)) j
+unfolding listed
 listed_has f i zero j h l e = absurd (omega arith)
 listed_has f i (suc n) j h l e = go (f i) refl (cases_eq i j) (λ d. listed_has f (suc i) n j (omega arith) (omega arith) e)
   where
@@ -45,6 +73,7 @@ listed_has f i (suc n) j h l e = go (f i) refl (cases_eq i j) (λ d. listed_has 
     go false is (inr d) later = later d
 
 pub listed_is : (f : ℕ → Bool) (i n k : ℕ) → k < length (listed f i n) → f (get_or (listed f i n) k 0) ≡ true
+unfolding listed
 listed_is f i zero k h = absurd (omega arith)
 listed_is f i (suc n) k h = go (f i) refl (listed_is f (suc i) n) k h
   where
@@ -55,35 +84,80 @@ listed_is f i (suc n) k h = go (f i) refl (listed_is f (suc i) n) k h
 
 -- the list of all members tells the set
 abbrev pub all_members : List ℕ → List ℕ
-all_members l = listed (members l) 0 (32 * length l)
+all_members l = listed_from 0 l
 
 pub members_told : (l : List ℕ) → Told (all_members l) (members l)
+unfolding listed_from
 members_told l n = (
-  λ x. listed_has (members l) 0 (32 * length l) n (omega arith) (omega (arith, members_below l n (T_true _ x))) (T_true _ x),
-  λ p. true_T _ (ap (members l) (sym p.2) ∙ listed_is (members l) 0 (32 * length l) p.0 p.1),
+  λ x. listed_has (λ j. members l (j - 0)) 0 (32 * length l) n (omega arith) (omega (arith, members_below l n (T_true _ x))) (ap (members l) (let t : n - 0 ≡ n = omega arith in t) ∙ T_true _ x),
+  λ p. true_T _ (ap (members l) (let t : n ≡ get_or (all_members l) p.0 0 - 0 = omega (arith, p.2) in t) ∙ listed_is (λ j. members l (j - 0)) 0 (32 * length l) p.0 p.1),
 )
 
 -- and so a part of it that is told by no list of its own
 pub told_part : (l : List ℕ) (R : Set) {list : Option (List ℕ)} → Part l list R → list ≡ None → Told (all_members l) R
 told_part l R part none n = (λ x. (members_told l n).0 (part.within n x), λ p. part.whole none n ((members_told l n).1 p))
 
--- what a call of the set's iterator gives
-abbrev gives : Members → Option ℕ → Members → Type 0
-gives s r t = (t.set.now ≡ s.set.now) × MatchOption r (NoneFrom (members s.set.now) s.from) (λ m. Least (members s.set.now) s.from m × (t.from ≡ m + 1))
+-- ---- the iterator of a set
 
-abbrev left_in : Members → List ℕ
-left_in t = listed (members t.set.now) t.from (32 * length t.set.now - t.from)
+-- what it gives
+pub yields_members : {s : Members} (l : List ℕ) → members_left s ≡ listed_from 0 l → YieldsList (YieldsFirst members_left) (λ n. n) s (all_members l)
+yields_members l left = YieldsList-from_first (λ n. n) members_left (all_members l) left
 
--- and so it gives that list
-module _ {s : Members} {l : List ℕ} (are : s.set.now ≡ l) (from : s.from ≡ 0) where
-  pub yields_members : YieldsList gives (λ n. n) s (all_members l)
-  yields_members = subst (YieldsList gives (λ n. n) s) all (YieldsList-from_shown gives (λ n. n) left_in (λ t u e. ap length (listed_none (members t.set.now) t.from _ e.1)) first s)
-    where
-      first : (t : Members) (x : ℕ) (u : Members) → gives t (Some x) u → left_in t ≡ x ∷ left_in u
-      first t x u e = rw (e.0, e.1.1) (let l : x < 32 * length t.set.now = members_below t.set.now x e.1.0.is in listed_first (members t.set.now) t.from (32 * length t.set.now - t.from) x (32 * length t.set.now - (x + 1)) e.1.0 (omega (arith, e.1.0.after)))
+-- a word that holds none is passed over
+none_here : (i : ℕ) (ws : List ℕ) (j : ℕ) → i ≤ j → j < i + 32 → members (0 ∷ ws) (j - i) ≡ false
+none_here i ws j a h = members_head 0 ws (j - i) (omega arith) ∙ digit_none (j - i)
 
-      all : left_in s ≡ all_members l
-      all = let none : 32 * length l - 0 ≡ 32 * length l = omega arith in rw (are, from) (ap (listed (members l) 0) none)
+pub left_behind : (i : ℕ) {w v : ℕ} {l ws : List ℕ} → w ≡ 0 → l ≡ v ∷ ws → listed_from i (w ∷ l) ≡ listed_from (i + 32) (v ∷ ws)
+unfolding listed_from
+left_behind i {v = v} {ws = ws} none more =
+    rw (none, more)
+    (listed_past (λ n. members (0 ∷ v ∷ ws) (n - i)) i (32 * length (0 ∷ v ∷ ws)) (i + 32) (32 * length (v ∷ ws)) (omega arith) (omega arith) (none_here i (v ∷ ws))
+    ∙ listed_same (λ n. members (0 ∷ v ∷ ws) (n - i)) (λ n. members (v ∷ ws) (n - (i + 32))) (i + 32) (32 * length (v ∷ ws))
+    (λ j a. ap (members (0 ∷ v ∷ ws)) (let t : j - i ≡ 32 + (j - (i + 32)) = omega arith in t) ∙ members_cons 0 (v ∷ ws) (j - (i + 32))))
+
+-- behind the last word there is none
+pub end_left : (i : ℕ) {w : ℕ} (l : List ℕ) → w ≡ 0 → length l ≡ 0 → listed_from i (w ∷ l) ≡ []
+unfolding listed_from
+end_left i [] none end = rw none (listed_past (λ n. members (0 ∷ []) (n - i)) i 32 (i + 32) 0 (omega arith) (omega arith) (none_here i []) ∙ listed_zero (λ n. members (0 ∷ []) (n - i)) (i + 32))
+end_left i (x ∷ l) none end = absurd (omega arith)
+
+pub none_left : (i : ℕ) (l : List ℕ) → length l ≡ 0 → listed_from i l ≡ []
+unfolding listed_from
+none_left i [] end = listed_zero (λ n. members [] (n - i)) i
+none_left i (x ∷ l) end = absurd (omega arith)
+
+-- and of any other the lowest bit is the first that is left
+module _ (i w : ℕ) (ws : List ℕ) (fits : w < 2 ^ 32) (some : w ≡ 0 → ⊥) where
+  abbrev lowest : ℕ
+  lowest = count_trailing_zeros 32 w
+
+  lowest_lt : lowest < 32
+  lowest_lt = trailing_lt 32 w fits (omega arith)
+
+  without : (j : ℕ) → (j < 32) ⊎ (32 ≤ j) → members (bit_and w (w - 1) ∷ ws) j ≡ (not (eqb j lowest) && members (w ∷ ws) j)
+  without j (inl h) =
+      members_head (bit_and w (w - 1)) ws j h ∙ digit_cleared w lowest j (trailing_at 32 w lowest_lt) (trailing_below 32 w)
+      ∙ ap (λ b. not (eqb j lowest) && b) (sym (members_head w ws j h))
+  without j (inr h) =
+      let behind : j ≡ 32 + (j - 32) = omega arith in
+      ap (members (bit_and w (w - 1) ∷ ws)) behind ∙ members_cons (bit_and w (w - 1)) ws (j - 32) ∙ sym (ap (members (w ∷ ws)) behind ∙ members_cons w ws (j - 32))
+      ∙ ap (λ b. not b && members (w ∷ ws) j) (sym (ne_eqb j lowest (let d : j ≡ lowest → ⊥ = omega (arith, lowest_lt) in d)))
+
+  shifted : (j : ℕ) → i ≤ j → (j ≡ i + lowest) ⊎ (j ≡ i + lowest → ⊥) → eqb (j - i) lowest ≡ eqb j (i + lowest)
+  shifted j a (inl s) = eq-eqb (j - i) lowest (omega arith) ∙ sym (eq-eqb j (i + lowest) s)
+  shifted j a (inr d) = ne_eqb (j - i) lowest (omega arith) ∙ sym (ne_eqb j (i + lowest) d)
+
+  least : Least (λ n. members (w ∷ ws) (n - i)) i (i + lowest)
+  least = record {
+    after = omega arith;
+    is = ap (members (w ∷ ws)) (let t : i + lowest - i ≡ lowest = omega arith in t) ∙ members_head w ws lowest lowest_lt ∙ trailing_at 32 w lowest_lt;
+    none = λ j a h. members_head w ws (j - i) (omega (arith, lowest_lt)) ∙ trailing_below 32 w (j - i) (omega arith);
+  }
+
+  pub lowest_left : listed_from i (w ∷ ws) ≡ (i + count_trailing_zeros 32 w) ∷ listed_from i (bit_and w (w - 1) ∷ ws)
+  unfolding listed_from
+  lowest_left = listed_least (λ n. members (w ∷ ws) (n - i)) (λ n. members (bit_and w (w - 1) ∷ ws) (n - i)) i (32 * length (w ∷ ws)) (i + lowest) (32 * length (w ∷ ws) - (lowest + 1)) least (omega (arith, lowest_lt))
+      (λ j a. without (j - i) (cases_lt (j - i) 32) ∙ ap (λ b. not b && members (w ∷ ws) (j - i)) (shifted j a (cases_eq j (i + lowest))))
 
 -- the greatest of a number and the weights of a list of places
 record Greatest (g : Game) (xs : List ℕ) (a r : ℕ) : Type 0 where

@@ -1,5 +1,5 @@
 -- The places from which a side can bring every play to a target, and what `attract_to` promises.
-use Rattle.std.proofs.Common.{◌≡◌, ℕ, suc, ◌+◌, ◌*◌, ◌<◌, ◌≤◌, ◌⊎◌, List, length, get_or, set, sym, refl, ap, ◌∙◌, subst, inl, inr, arith}
+use Rattle.std.proofs.Common.{◌≡◌, ℕ, suc, ◌+◌, ◌*◌, ◌<◌, ◌≤◌, ◌⊎◌, List, [], ◌∷◌, length, get_or, set, sym, refl, ap, ◌∙◌, subst, inl, inr, arith}
 use Rattle.std.specs.Prelude.{Err, Result}
 use Rattle.std.proofs.lemmas.List.{get_or-set_same}
 use Rattle.std.proofs.lemmas.Bool.{cases_eq}
@@ -9,7 +9,8 @@ use Rattle.endless.specs.Games.{Game, Reads, whose, May, Play, Plays, other}
 use Rattle.endless.specs.Says.{side, goes}
 use Rattle.endless.specs.Sets.{Set, In, Out, minus, whole, having}
 use Rattle.endless.specs.Attractors.{Attractor}
-use Rattle.endless.specs.Bits.{members, Removed, Least}
+use Rattle.endless.specs.Bits.{members, Removed}
+use Rattle.endless.specs.Listed.{listed_from}
 use Rattle.endless.specs.Graph.{moves as moves-of}
 use Rattle.endless.specs.Ways.{ways, queued, Counted}
 use Rattle.endless.specs.Pulling.{Unchanged, Starts, Moved, Attracts}
@@ -17,7 +18,7 @@ use Rattle.endless.specs.Levels.{Stays, Given}
 use Rattle.endless.specs.declared.desk.Desk.{Desk}
 use Rattle.endless.specs.Layout.{Fresh}
 use Rattle.endless.specs.Accepting.{Accepts}
-use Rattle.endless.specs.Reaching.{Handed, Reaches, ReachedSays, ReachPost}
+use Rattle.endless.specs.Reaching.{Handed, HandedTo, Reaches, ReachedSays, ReachPost}
 use Rattle.endless.proofs.Tests.{true_T, T_true}
 use Rattle.endless.proofs.Places.{from_place, has_move, to_place, is_other, not_other, other_below}
 use Rattle.endless.proofs.Sets.{in_or_out, minus_in, minus_within, minus_out, whole_in, whole_place, having_in, having_within, having_is}
@@ -26,33 +27,42 @@ use Rattle.endless.proofs.Attractors.{attractor_least, attractor_brings, attract
 use Rattle.endless.proofs.Ways.{ways_alike, total_kept}
 use Rattle.endless.proofs.Removed.{removed_out, removed_within, removed_which}
 use Rattle.endless.proofs.Working.{unchanged_goes, same_side}
-use Rattle.endless.proofs.Gathering.{before, given_same, given_length, given_side, given_stays}
+use Rattle.endless.proofs.Behind.{Behind, behind_none, behind_first, behind_more, behind_all}
+use Rattle.endless.proofs.Gathering.{given_same, given_length, given_side, given_stays}
 use Rattle.endless.proofs.Levels.{Frame}
 use Rattle.endless.proofs.Layouts.{filled_whole, whole_filled}
 
 -- ---- the places of a set are given to a side, one after the other
 
-module _ {g : Game} {w : ℕ} (set : List ℕ) {out out' : List ℕ} {from : ℕ} (so_far : Handed g w (members set) from out out') where
-  pub handed_more : {m : ℕ} {out'' : List ℕ} → Least (members set) from m → 2 * m + 1 < length out' → Given g w m (members set) out' out'' → Handed g w (members set) (m + 1) out out''
-  handed_more {m} {out''} least room t = record {
+-- those that are not left have been given
+pub record Handing (g : Game) (w : ℕ) (set left out out' : List ℕ) : Type 0 where
+  pub frame : (n : ℕ) → Out (members set) n → Unchanged out out' n
+  pub behind : Behind set (HandedTo g w (members set) out') left
+
+pub handed_none : {g : Game} {w : ℕ} (set out : List ℕ) {left : List ℕ} → left ≡ listed_from 0 set → Handing g w set left out out
+handed_none set out e = record { frame = λ n o. (refl, refl); behind = behind_none set _ e }
+
+module _ {g : Game} {w : ℕ} {set left out out' : List ℕ} (so_far : Handing g w set left out out') where
+  pub handed_first : {m : ℕ} {rest : List ℕ} → left ≡ m ∷ rest → In (members set) m
+  handed_first e = behind_first e so_far.behind
+
+  pub handed_more : {m : ℕ} {rest out'' : List ℕ} → left ≡ m ∷ rest → 2 * m + 1 < length out' → Given g w m (members set) out' out'' → Handing g w set rest out out''
+  handed_more {m} {rest} {out''} e room t = record {
     frame = λ n o.
         let a = so_far.frame n o in
-        let b = given_same room t n (λ e. o (subst (λ (j : ℕ). In (members set) j) (sym e) (true_T _ least.is))) in
+        let b = given_same room t n (λ s. o (subst (In (members set)) (sym s) (handed_first e))) in
         (b.0 ∙ a.0, b.1 ∙ a.1);
-    labelled = λ n l x. labelled n l x (cases_eq n m);
-    stays = λ n l x. stays n l x (cases_eq n m);
+    behind = behind_more e so_far.behind (λ n d h. still n d h) (record { labelled = given_side room t; stays = given_stays room t });
   }
     where
-      earlier : (n : ℕ) → n < m + 1 → (n ≡ m → ⊥) → In (members set) n → n < from
-      earlier n l d x = before set from n (λ e. least.none n e (omega arith)) x
+      still : (n : ℕ) → (n ≡ m → ⊥) → HandedTo g w (members set) out' n → HandedTo g w (members set) out'' n
+      still n d h = record {
+        labelled = same_side out' out'' n (given_length room t) (given_same room t n d) ∙ h.labelled;
+        stays = subst (Stays g (members set) n) (sym (unchanged_goes out' out'' n (given_same room t n d))) h.stays;
+      }
 
-      labelled : (n : ℕ) → n < m + 1 → In (members set) n → (n ≡ m) ⊎ (n ≡ m → ⊥) → side out'' n ≡ w
-      labelled n l x (inl e) = ap (side out'') e ∙ given_side room t
-      labelled n l x (inr d) = same_side out' out'' n (given_length room t) (given_same room t n d) ∙ so_far.labelled n (earlier n l d x) x
-
-      stays : (n : ℕ) → n < m + 1 → In (members set) n → (n ≡ m) ⊎ (n ≡ m → ⊥) → Stays g (members set) n (goes out'' n)
-      stays n l x (inl e) = subst (λ (j : ℕ). Stays g (members set) j (goes out'' j)) (sym e) (given_stays room t)
-      stays n l x (inr d) = subst (Stays g (members set) n) (sym (unchanged_goes out' out'' n (given_same room t n d))) (so_far.stays n (earlier n l d x) x)
+  pub handed_all : left ≡ [] → Handed g w (members set) out out'
+  handed_all e = record { frame = so_far.frame; all = behind_all e so_far.behind }
 
 -- ---- the one target, and the rest of the game
 
@@ -162,16 +172,13 @@ module _ {s : List ℕ} {g : Game} (r : Reads s g) {w target : ℕ} (two : w < 2
 module _ {s : List ℕ} {g : Game} (reads : Reads s g) {w target : ℕ} (two : w < 2) (place : target < length g)
     {left left₁ left₂ queue₁ queue₂ out₁ out₂ out₃ : List ℕ} {desk : Desk} {tail : ℕ} (fresh : Fresh g left desk)
     (given : Given g w target (members left) desk.out.now out₁) (removed : Removed left target left₁) (moved : Moved left₁ queue₁ 1 left₂ queue₂ tail) (kept : Frame left₁ left₂ out₁ out₂)
-    {escapes₂ : List ℕ} (attracts : Attracts g (whole g) w (Only g target) left₂ queue₂ out₂ escapes₂ tail) {q : ℕ} (q-is : q ≡ other w) (handed : Handed g q (members left₂) (32 * length left₂) out₂ out₃)
+    {escapes₂ : List ℕ} (attracts : Attracts g (whole g) w (Only g target) left₂ queue₂ out₂ escapes₂ tail) {q : ℕ} (q-is : q ≡ other w) (handed : Handed g q (members left₂) out₂ out₃)
     (long₂ : length out₂ ≡ length out₁) (long₃ : length out₃ ≡ length out₂) where
   room : 2 * target + 1 < length desk.out.now
   room = omega (arith, fresh.sized.answers)
 
   inside₁ : (n : ℕ) → In (members left₁) n → n < length g
   inside₁ n x = whole_place g n (filled_whole g left fresh.are n (removed_within left target left₁ removed n x))
-
-  inside₂ : (n : ℕ) → In (members left₂) n → n < 32 * length left₂
-  inside₂ n x = members_below left₂ n (T_true _ x)
 
   gone : Out (members left₂) target
   gone x = removed_out left target left₁ removed (moved.less target x)
@@ -198,7 +205,7 @@ module _ {s : List ℕ} {g : Game} (reads : Reads s g) {w target : ℕ} (two : w
 
   reaches : Reaches g w target (side out₃) (goes out₃)
   reaches = attractor_reaches reads two place (members left₂) (attractor_own (goes out₃) (λ n x d. unchanged_goes out₂ out₃ n (handed.frame n (minus_out (whole g) (members left₂) n x))) attracts.attractor)
-      ours (λ n x. handed.labelled n (inside₂ n x) x ∙ q-is) (λ n x. handed.stays n (inside₂ n x) x) gone target_move
+      ours (λ n x. (handed.all n x).labelled ∙ q-is) (λ n x. (handed.all n x).stays) gone target_move
 
   frame : (n : ℕ) → length g ≤ n → Unchanged desk.out.now out₃ n
   frame n h =

@@ -124,13 +124,13 @@ empty_words l false fits (k, h, some) = sym (ne_eqb (size l) 0 (λ e. let p = so
 
 -- ---- members counted
 
-members_cons : (w : ℕ) (ws : List ℕ) (j : ℕ) → members (w ∷ ws) (32 + j) ≡ members ws j
+pub members_cons : (w : ℕ) (ws : List ℕ) (j : ℕ) → members (w ∷ ws) (32 + j) ≡ members ws j
 unfolding members
 members_cons w ws j =
     ap₂ (λ q r. digit (get_or (w ∷ ws) q 0) r)
     (let e : (32 + j) / 32 ≡ suc (j / 32) = omega arith in e) (let e : (32 + j) % 32 ≡ j % 32 = omega arith in e)
 
-members_head : (w : ℕ) (ws : List ℕ) (j : ℕ) → j < 32 → members (w ∷ ws) j ≡ digit w j
+pub members_head : (w : ℕ) (ws : List ℕ) (j : ℕ) → j < 32 → members (w ∷ ws) j ≡ digit w j
 unfolding members
 members_head w ws j h =
     ap₂ (λ q r. digit (get_or (w ∷ ws) q 0) r)
@@ -182,7 +182,3 @@ filled_all l n i left h room f j = go (cases_lt j (32 * i))
 pub size_below : (l : List ℕ) (n : ℕ) → n ≤ 32 * length l → ((j : ℕ) → members l j ≡ ltb j n) → size l ≡ n
 unfolding size
 size_below l n room are = count_same (members l) (λ j. ltb j n) (32 * length l) (λ j h. are j) ∙ count_below n (32 * length l) room
-
--- ---- a loop that goes from member to member: what holds of each member below i
-abbrev pub EachBelow : (ℕ → Bool) → (ℕ → Type 0) → ℕ → Type 0
-EachBelow f P i = (j : ℕ) → j < i → f j ≡ true → P j

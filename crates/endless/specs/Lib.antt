@@ -11,6 +11,7 @@ pub mod Heads
 pub mod Words
 pub mod Answers
 pub mod Bits
+pub mod Listed
 pub mod Weights
 pub mod Graph
 pub mod Ways

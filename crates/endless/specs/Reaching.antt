@@ -9,11 +9,15 @@ use Rattle.endless.specs.Levels.{Stays}
 use Rattle.endless.specs.declared.refusal.Refusal.{Refusal}
 use Rattle.endless.specs.declared.refusal.Refusal.TheVariants.{Few, NoGame, NoPlace, OutFull}
 
--- the places of U below a bound are given to a side, with moves that stay in U; those outside U are as they were
-pub record Handed (g : Game) (w : ℕ) (U : Set) (bound : ℕ) (out out' : List ℕ) : Type 0 where
+-- a place is given to a side, with a move that stays in U
+pub record HandedTo (g : Game) (w : ℕ) (U : Set) (out : List ℕ) (n : ℕ) : Type 0 where
+  pub labelled : side out n ≡ w
+  pub stays : Stays g U n (goes out n)
+
+-- the places of U are given to a side, with moves that stay in U; those outside U are as they were
+pub record Handed (g : Game) (w : ℕ) (U : Set) (out out' : List ℕ) : Type 0 where
   pub frame : (n : ℕ) → Out U n → Unchanged out out' n
-  pub labelled : (n : ℕ) → n < bound → In U n → side out' n ≡ w
-  pub stays : (n : ℕ) → n < bound → In U n → Stays g U n (goes out' n)
+  pub all : (n : ℕ) → In U n → HandedTo g w U out' n
 
 -- w can bring every play to the target from the places given to it, and the other side keeps every play that begins at one of its own away from it; each by the plan, which may be gone by and stays, but at the target, at places given to the same side; and w is given no more than has to be
 pub record Reaches (g : Game) (w target : ℕ) (sides plan : ℕ → ℕ) : Type 0 where

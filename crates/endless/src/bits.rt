@@ -3,8 +3,9 @@
 //! Functions on words, and no type: a set is cut from lent words, and saved and
 //! handed on as words, and a type around them would be made at each such cut.
 ghost use Rattle.std.specs.Prelude.{◌≡◌, ℕ, ◌+◌, ◌-◌, ◌*◌, ◌/◌, ◌^◌, ◌<◌, ◌≤◌, true, false, length, MatchOption, ◌==◌, nat_lt};
-ghost use Rattle.std.specs.Iterator.{at_most};
+ghost use Rattle.std.specs.Iterator.{YieldsFirst, item_count};
 ghost use Rattle.endless.specs.Bits.{digit, members, size, Inserted, Removed, Least, NoneFrom};
+ghost use Rattle.endless.specs.Listed.{listed_from, members_left, Numbered};
 
 /// Whether `i` is in the set.
 pub fn has(set: &[u32], i: u32) -> bool
@@ -120,34 +121,55 @@ pub fn next(set: &[u32], from: u32) -> Option<u32>
     None
 }
 
-/// The members of a set, the least first.
+/// The members of a set, the least first: it is gone through word by word.
 #[derive(Clone, Copy)]
 pub struct Members<'a> {
-    set: &'a [u32],
-    from: u32,
+    // The place of the lowest bit of `word`.
+    at: u32,
+    // A word without the bits that were given.
+    word: u32,
+    // The words behind it.
+    words: &'a [u32],
 }
 
 /// Goes through the members of the set, the least first.
 pub fn iter(set: &[u32]) -> Members<'_>
     requires { 32 * length set.now < 2 ^ 32 }
-    ensures set { result.set.now ≡ set.now }
-    ensures from { result.from ≡ 0 }
+    ensures left { members_left result ≡ listed_from 0 set.now }
+    ensures numbered { Numbered result }
 {
-    Members { set, from: 0 }
+    match set.split_first() {
+        Some((word, words)) => Members {
+            at: 0,
+            word: *word,
+            words,
+        },
+        None => Members {
+            at: 0,
+            word: 0,
+            words: set,
+        },
+    }
 }
 
 impl<'a> Iterator for Members<'a> {
     type Item = u32;
 
-    ghost can_next = { λ s. 32 * length s.set.now < 2 ^ 32 };
+    ghost can_next = { Numbered };
 
-    ghost next_gives = { λ s r t. (t.set.now ≡ s.set.now) × MatchOption r (NoneFrom (members s.set.now) s.from) (λ m. Least (members s.set.now) s.from m × (t.from ≡ m + 1)) };
+    ghost next_gives = { YieldsFirst members_left };
 
-    ghost remaining = { λ s. at_most (32 * length s.set.now - s.from) };
+    ghost remaining = { item_count members_left };
 
     fn next(&mut self) -> Option<u32> {
-        let place = next(self.set, self.from)?;
-        self.from = place + 1;
-        Some(place)
+        while self.word == 0 {
+            let (word, words) = self.words.split_first()?;
+            self.at += 32;
+            self.word = *word;
+            self.words = words;
+        }
+        let bit = self.word.trailing_zeros();
+        self.word &= self.word - 1;
+        Some(self.at + bit)
     }
 }

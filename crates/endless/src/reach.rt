@@ -96,7 +96,7 @@ fn give_all(graph: &Graph, side: Side, set: &[u32], out: &mut [u32])
     requires answers { 2 * length graph.now ≤ length out.old }
     requires sets { length graph.now ≤ 32 * length set.now }
     requires small { 32 * length set.now < 2 ^ 32 }
-    ensures { Handed graph.now (number side) (members set.now) (32 * length set.now) out.old out.new }
+    ensures { Handed graph.now (number side) (members set.now) out.old out.new }
 {
     for place in bits::iter(set) {
         give(graph, side, place, set, out);

@@ -16,7 +16,7 @@ count_each-requires-clause-inside c =
 pub count_each-requires-in-None-clause-inside : goal.count_each-requires-in-None-clause-inside
 count_each-requires-in-None-clause-inside c =
     let own = c.args.set.now in
-    (all_members own, (yields_members c.iter-in-None.ensures.set c.iter-in-None.ensures.from).runs, λ j h. c.requires.inside _ (told_in (all_members own) _ (members_told own) j h))
+    (all_members own, (yields_members _ c.iter-in-None.ensures.left).runs, λ j h. c.requires.inside _ (told_in (all_members own) _ (members_told own) j h))
 
 pub returns-in-Some : goal.returns-in-Some
 returns-in-Some c = λ R part.
@@ -26,4 +26,4 @@ returns-in-Some c = λ R part.
 pub returns-in-None : goal.returns-in-None
 returns-in-None c = λ R part.
     let own = c.args.set.now in
-    recounted_all (c.count_each-in-None.ensures (all_members own) (yields_members c.iter-in-None.ensures.set c.iter-in-None.ensures.from).runs) R refl (told_part own R part (ap option_copied c.in-None.is))
+    recounted_all (c.count_each-in-None.ensures (all_members own) (yields_members _ c.iter-in-None.ensures.left).runs) R refl (told_part own R part (ap option_copied c.in-None.is))

@@ -13,7 +13,7 @@ take_all-requires-clause-inside c =
 pub take_all-requires-in-None-clause-inside : goal.take_all-requires-in-None-clause-inside
 take_all-requires-in-None-clause-inside c =
     let own = c.args.own.now in
-    (all_members own, (yields_members c.iter-places.ensures.set c.iter-places.ensures.from).runs, λ j h. c.requires.inside _ (told_in (all_members own) _ (members_told own) j h))
+    (all_members own, (yields_members _ c.iter-places.ensures.left).runs, λ j h. c.requires.inside _ (told_in (all_members own) _ (members_told own) j h))
 
 pub returns-in-Some-clause-gathered : goal.returns-in-Some-clause-gathered
 returns-in-Some-clause-gathered c =
@@ -24,5 +24,5 @@ returns-in-Some-clause-gathered c =
 pub returns-in-None-clause-gathered : goal.returns-in-None-clause-gathered
 returns-in-None-clause-gathered c =
     let own = c.args.own.now in
-    let gathered = c.take_all-in-None.ensures.gathered (all_members own) (yields_members c.iter-places.ensures.set c.iter-places.ensures.from).runs (λ n x. (members_told own n).0 (c.requires.part n x)) in
+    let gathered = c.take_all-in-None.ensures.gathered (all_members own) (yields_members _ c.iter-places.ensures.left).runs (λ n x. (members_told own n).0 (c.requires.part n x)) in
     search rules

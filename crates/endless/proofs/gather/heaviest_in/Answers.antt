@@ -18,10 +18,10 @@ returns-in-Some c = λ some.
 pub heaviest-requires-in-None-clause-inside : goal.heaviest-requires-in-None-clause-inside
 heaviest-requires-in-None-clause-inside c =
     let part = c.args.part.now in
-    (all_members part, (yields_members c.iter-in-None.ensures.set c.iter-in-None.ensures.from).runs, λ j h. c.requires.inside _ (told_in (all_members part) _ (members_told part) j h))
+    (all_members part, (yields_members _ c.iter-in-None.ensures.left).runs, λ j h. c.requires.inside _ (told_in (all_members part) _ (members_told part) j h))
 
 pub returns-in-None : goal.returns-in-None
 returns-in-None c = λ some.
     let part = c.args.part.now in
     let told = members_told part in
-    heaviest_told c.args.graph.now (all_members part) _ _ told (c.heaviest-in-None.ensures (all_members part) (yields_members c.iter-in-None.ensures.set c.iter-in-None.ensures.from).runs (told_some _ part told some))
+    heaviest_told c.args.graph.now (all_members part) _ _ told (c.heaviest-in-None.ensures (all_members part) (yields_members _ c.iter-in-None.ensures.left).runs (told_some _ part told some))

@@ -15,7 +15,7 @@ is_any-requires-clause-inside c =
 pub is_any-requires-in-None-clause-inside : goal.is_any-requires-in-None-clause-inside
 is_any-requires-in-None-clause-inside c =
     let own = c.args.set.now in
-    (all_members own, (yields_members c.iter-in-None.ensures.set c.iter-in-None.ensures.from).runs, λ j h. c.requires.answers _ (told_in (all_members own) _ (members_told own) j h))
+    (all_members own, (yields_members _ c.iter-in-None.ensures.left).runs, λ j h. c.requires.answers _ (told_in (all_members own) _ (members_told own) j h))
 
 pub returns-in-Some : goal.returns-in-Some
 returns-in-Some c = λ R part.
@@ -25,4 +25,4 @@ returns-in-Some c = λ R part.
 pub returns-in-None : goal.returns-in-None
 returns-in-None c = λ R part.
     let own = c.args.set.now in
-    any_told _ _ (all_members own) R (told_part own R part (ap option_copied c.in-None.is)) c.is_any-in-None.result (c.is_any-in-None.ensures (all_members own) (yields_members c.iter-in-None.ensures.set c.iter-in-None.ensures.from).runs)
+    any_told _ _ (all_members own) R (told_part own R part (ap option_copied c.in-None.is)) c.is_any-in-None.result (c.is_any-in-None.ensures (all_members own) (yields_members _ c.iter-in-None.ensures.left).runs)

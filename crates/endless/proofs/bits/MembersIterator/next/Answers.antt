@@ -1,16 +1,28 @@
-use Rattle.std.proofs.Common.{arith}
-use Rattle.endless.proofs.SetLaws.{members_below}
+use Rattle.std.proofs.Common.{length, sym, ap, ◌∙◌, arith}
+use Rattle.endless.proofs.MemberLists.{left_behind, end_left, lowest_left}
 use Rattle.endless.proofs.bits.MembersIterator.next.Goals as goal
 
-pub overflow_add-self : goal.overflow_add-self
-overflow_add-self c = let least = c.in_ok-place.ensures in omega (arith, members_below c.args.self.now.set.now c.in_ok-place.place least.is, c.requires)
+pub returns-in_err-word-clause-steps : goal.returns-in_err-word-clause-steps
+returns-in_err-word-clause-steps c =
+    let end = end_left c.loop-self.self.at c.loop-self.self.words.now c.loop-self-test.true c.in_err-word.ensures.cases in
+    rw c.from_residual.ensures (sym c.loop-self.invariant.0 ∙ end, end)
+
+pub loop-self-preserved : goal.loop-self-preserved
+loop-self-preserved c =
+    let words = c.in_ok-word.ensures.cases.0 in
+    (sym (left_behind c.loop-self.self.at c.loop-self-test.true words) ∙ c.loop-self.invariant.0, omega (arith, c.loop-self.invariant.1, ap length words))
+
+pub returns-clause-steps : goal.returns-clause-steps
+returns-clause-steps c =
+    let self = c.loop-self.self in
+    sym c.loop-self.invariant.0 ∙ lowest_left self.at self.word self.words.now (omega arith) c.loop-self-test.false
 
 pub returns-clause-goes : goal.returns-clause-goes
 returns-clause-goes c =
-    let least = c.in_ok-place.ensures in
-    let below = members_below c.args.self.now.set.now c.in_ok-place.place least.is in
+    let self = c.loop-self.self in
+    let is = sym c.loop-self.invariant.0 ∙ lowest_left self.at self.word self.words.now (omega arith) c.loop-self-test.false in
     record {
-      on = λ _. (c.requires, tt, omega (arith, below, least.after));
-      keeps = c.requires;
+      on = λ _. (c.loop-self.invariant.1, tt, omega (arith, ap length is));
+      keeps = c.loop-self.invariant.1;
       rests = λ _. tt;
     }

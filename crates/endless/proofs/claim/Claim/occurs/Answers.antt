@@ -11,11 +11,11 @@ use Rattle.endless.proofs.claim.Claim.occurs.Goals as goal
 pub any-requires-clause-callable : goal.any-requires-clause-callable
 any-requires-clause-callable c =
     let set = c.args.self.now.set.now in
-    serves_from_places (yields_members c.iter.ensures.set c.iter.ensures.from) (λ x q k. search rules)
+    serves_from_places (yields_members _ c.iter.ensures.left) (λ x q k. search rules)
     (λ x k h is _ _ _ _ _ _. omega (arith, is, get_or_default_zero (all_members set) k x h, c.args.self.now.inside _ (told_in (all_members set) _ (members_told set) k h)))
 
 pub returns : goal.returns
 returns c =
     let claim = c.args.self.now in
     none_told _ _ (members_told claim.set.now) _ (λ n. weight claim.graph.now n ≢ c.args.weight) c.any.result
-    (cases_from_any c.any.new.self _ c.any.result (λ n. weight claim.graph.now n ≡ c.args.weight) (λ n. weight claim.graph.now n ≢ c.args.weight) c.any.ensures.ran (yields_members c.iter.ensures.set c.iter.ensures.from) (λ x q k. search (rules, tests)) (λ x q k. search (rules, tests)))
+    (cases_from_any c.any.new.self _ c.any.result (λ n. weight claim.graph.now n ≡ c.args.weight) (λ n. weight claim.graph.now n ≢ c.args.weight) c.any.ensures.ran (yields_members _ c.iter.ensures.left) (λ x q k. search (rules, tests)) (λ x q k. search (rules, tests)))
