@@ -19,7 +19,7 @@ use Rattle.endless.proofs.Ways.{total_kept}
 use Rattle.endless.proofs.Working.{put_goes, put_side, put_unchanged}
 
 -- a member that a scan from `from` on would have found is below it
-pub before : (l : List ℕ) (from n : ℕ) → (from ≤ n → members l n ≡ false) → In (members l) n → n < from
+before : (l : List ℕ) (from n : ℕ) → (from ≤ n → members l n ≡ false) → In (members l) n → n < from
 before l from n none x = go (cases_lt n from)
   where
     go : (n < from) ⊎ (from ≤ n) → n < from

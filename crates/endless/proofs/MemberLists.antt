@@ -1,5 +1,5 @@
 -- The members of a set as a list, as its iterator gives them; the heaviest of a list.
-use Rattle.std.proofs.Common.{◌≡◌, ℕ, zero, suc, ◌+◌, ◌-◌, ◌*◌, ◌^◌, ◌<◌, ◌≤◌, Bool, true, false, cond, not, ◌&&◌, eqb, ◌⊎◌, List, [], ◌∷◌, Option, Some, None, max, map, fold, option_map, unwrap_or, length, get_or, sym, refl, ap, ◌∙◌, subst, ap₂, inl, inr, arith}
+use Rattle.std.proofs.Common.{◌≡◌, ℕ, zero, suc, ◌+◌, ◌-◌, ◌*◌, ◌^◌, ◌<◌, ◌≤◌, Bool, true, false, cond, not, ◌&&◌, eqb, ◌⊎◌, List, [], ◌∷◌, Option, None, max, map, fold, option_map, unwrap_or, length, get_or, sym, refl, ap, ◌∙◌, ap₂, inl, inr, arith}
 use lib.Bits.{bit_and}
 use lib.Count.{count_trailing_zeros}
 use Rattle.std.proofs.lemmas.Bool.{cases_eq, cases_lt, both_ways, eq-eqb, ne_eqb}
@@ -20,6 +20,8 @@ use Rattle.endless.proofs.Tests.{T_true, true_T}
 use Rattle.endless.proofs.SetLaws.{members_below}
 use Rattle.endless.proofs.Scans.{members_cons, members_head}
 use Rattle.endless.proofs.BitLaws.{digit_none, digit_cleared, trailing_below, trailing_at, trailing_lt}
+
+-- ---- the places of a stretch that are in a set
 
 -- of no places
 listed_zero : (f : ℕ → Bool) (i : ℕ) → listed f i 0 ≡ []
@@ -42,7 +44,7 @@ listed_past f i (suc n) m k l e none = go (cases_lt i m) (λ h. listed_past f (s
     go (inl h) later = rw (none i (omega arith) h) (later h)
     go (inr h) later = let here : m ≡ i = omega arith in let rest : k ≡ suc n = omega arith in rw (here, rest) refl
 
--- the least of a set, and the set without it
+-- the least of a set stands first, and then the set without it
 module _ (f h : ℕ → Bool) (i n m k : ℕ) (least : Least f i m) (e : i + n ≡ m + suc k) (without : (j : ℕ) → i ≤ j → h j ≡ (not (eqb j m) && f j)) where
   gone : (j : ℕ) → i ≤ j → j < suc m → (j ≡ m) ⊎ (j ≡ m → ⊥) → h j ≡ false
   gone j a l (inl s) = without j a ∙ ap (λ b. not b && f j) (eq-eqb j m s)
@@ -55,13 +57,13 @@ module _ (f h : ℕ → Bool) (i n m k : ℕ) (least : Least f i m) (e : i + n �
   unfolding listed
   first_behind = rw least.is refl
 
-  pub listed_least : listed f i n ≡ m ∷ listed h i n
+  listed_least : listed f i n ≡ m ∷ listed h i n
   listed_least =
       listed_past f i n m (suc k) least.after e least.none ∙ first_behind
       ∙ ap (λ l. m ∷ l) (listed_same f h (suc m) k same ∙ sym (listed_past h i n (suc m) k (omega (arith, least.after)) (omega arith) (λ j a l. gone j a l (cases_eq j m))))
 
 -- each member stands in the list, and nothing else does
-pub listed_has : (f : ℕ → Bool) (i n j : ℕ) → i ≤ j → j < i + n → f j ≡ true → Passed (listed f i n) (length (listed f i n)) j
+listed_has : (f : ℕ → Bool) (i n j : ℕ) → i ≤ j → j < i + n → f j ≡ true → Passed (listed f i n) (length (listed f i n)) j
 unfolding listed
 listed_has f i zero j h l e = absurd (omega arith)
 listed_has f i (suc n) j h l e = go (f i) refl (cases_eq i j) (λ d. listed_has f (suc i) n j (omega arith) (omega arith) e)
@@ -72,7 +74,7 @@ listed_has f i (suc n) j h l e = go (f i) refl (cases_eq i j) (λ d. listed_has 
     go false is (inl s) later = absurd (both_ways (f i) is (ap f s ∙ e))
     go false is (inr d) later = later d
 
-pub listed_is : (f : ℕ → Bool) (i n k : ℕ) → k < length (listed f i n) → f (get_or (listed f i n) k 0) ≡ true
+listed_is : (f : ℕ → Bool) (i n k : ℕ) → k < length (listed f i n) → f (get_or (listed f i n) k 0) ≡ true
 unfolding listed
 listed_is f i zero k h = absurd (omega arith)
 listed_is f i (suc n) k h = go (f i) refl (listed_is f (suc i) n) k h
@@ -81,6 +83,8 @@ listed_is f i (suc n) k h = go (f i) refl (listed_is f (suc i) n) k h
     go true is later zero h = is
     go true is later (suc k) h = later k (omega arith)
     go false is later k h = later k h
+
+-- ---- all members
 
 -- the list of all members tells the set
 abbrev pub all_members : List ℕ → List ℕ
@@ -158,6 +162,8 @@ module _ (i w : ℕ) (ws : List ℕ) (fits : w < 2 ^ 32) (some : w ≡ 0 → ⊥
   unfolding listed_from
   lowest_left = listed_least (λ n. members (w ∷ ws) (n - i)) (λ n. members (bit_and w (w - 1) ∷ ws) (n - i)) i (32 * length (w ∷ ws)) (i + lowest) (32 * length (w ∷ ws) - (lowest + 1)) least (omega (arith, lowest_lt))
       (λ j a. without (j - i) (cases_lt (j - i) 32) ∙ ap (λ b. not b && members (w ∷ ws) (j - i)) (shifted j a (cases_eq j (i + lowest))))
+
+-- ---- the heaviest
 
 -- the greatest of a number and the weights of a list of places
 record Greatest (g : Game) (xs : List ℕ) (a r : ℕ) : Type 0 where

@@ -19,10 +19,8 @@ use Rattle.endless.specs.declared.desk.Desk.{Desk}
 use Rattle.endless.specs.Layout.{Fresh}
 use Rattle.endless.specs.Accepting.{Accepts}
 use Rattle.endless.specs.Reaching.{Handed, HandedTo, Reaches, ReachedSays, ReachPost}
-use Rattle.endless.proofs.Tests.{true_T, T_true}
 use Rattle.endless.proofs.Places.{from_place, has_move, to_place, is_other, not_other, other_below}
 use Rattle.endless.proofs.Sets.{in_or_out, minus_in, minus_within, minus_out, whole_in, whole_place, having_in, having_within, having_is}
-use Rattle.endless.proofs.SetLaws.{members_below}
 use Rattle.endless.proofs.Attractors.{attractor_least, attractor_brings, attractor_past, attractor_own, attractor_laws}
 use Rattle.endless.proofs.Ways.{ways_alike, total_kept}
 use Rattle.endless.proofs.Removed.{removed_out, removed_within, removed_which}

@@ -16,6 +16,6 @@ listed_from i l = listed (λ n. members l (n - i)) i (32 * length l)
 abbrev pub members_left : Members → List ℕ
 members_left s = listed_from s.at (s.word ∷ s.words.now)
 
--- the places of these words have numbers
+-- the places of these words are numbers of 32 bits
 abbrev pub Numbered : Members → Type 0
 Numbered s = s.at + 32 * (1 + length s.words.now) ≤ 2 ^ 32
