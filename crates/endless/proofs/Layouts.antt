@@ -72,5 +72,5 @@ lent_is_enough s g r =
     omega (arith, wide, ap length r.is, words_length g, edges_long r)
 
 -- and so in parts: the set of all places, and behind it one for each level
-pub sets_fit : (g : Game) → Playable g → ((length g + length g) + (width (length g) + length g) + ((length g + 1) + (length g + 1) + edges g)) + (((length g + 1) + (length g + 1) + length g) + (width (length g) + kinds g * width (length g))) ≤ lent_for g
+pub sets_fit : (g : Game) → Playable g → ((length g + length g) + (width (length g) + width (length g) + length g) + ((length g + 1) + (length g + 1) + edges g)) + (((length g + 1) + (length g + 1) + length g) + (width (length g) + kinds g * width (length g))) ≤ lent_for g
 sets_fit g r = omega (arith, lent_is_enough (words_of g) g r, add-mul (kinds g) 1 (width (length g)))

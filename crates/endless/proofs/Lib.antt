@@ -35,6 +35,7 @@ pub mod Among
 mod Lists
 mod Preds
 pub mod Sources
+mod Own
 mod Totals
 mod MovesAt
 mod Removed

@@ -128,6 +128,13 @@ inserted l i h =
           λ out. size_with l (set l (i / 32) (bit_or (get_or l (i / 32) 0) (2 ^ (i % 32)))) i (length-set l (i / 32) (bit_or (get_or l (i / 32) 0) (2 ^ (i % 32)))) h out (insert_are l i h);
     })
 
+-- where nothing is to be put in the word stays
+pub inserted_not : (l : List ℕ) (i : ℕ) → set l (i / 32) (bit_or (get_or l (i / 32) 0) ((0 * 2 ^ (i % 32)) % 2 ^ 32)) ≡ l
+inserted_not l i = ap (λ (w : ℕ). set l (i / 32) w) stays ∙ set-get_or l (i / 32) 0
+  where
+    stays : bit_or (get_or l (i / 32) 0) ((0 * 2 ^ (i % 32)) % 2 ^ 32) ≡ get_or l (i / 32) 0
+    stays = ap (λ (x : ℕ). bit_or (get_or l (i / 32) 0) (x % 2 ^ 32)) (native.Mathlib.Nat.zero-mul (2 ^ (i % 32))) ∙ Rattle.std.specs.Int.Bits.or_zero_r (get_or l (i / 32) 0)
+
 -- a bit cleared
 pub remove_are : (l : List ℕ) (i : ℕ) → i / 32 < length l
     → (j : ℕ) → members (set l (i / 32) (bit_and (get_or l (i / 32) 0) (2 ^ 32 - 1 - 2 ^ (i % 32)))) j ≡ (not (eqb j i) && members l j)

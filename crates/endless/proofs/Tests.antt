@@ -36,3 +36,10 @@ which false b t = inr t
 
 pub from_eq : (a b : ℕ) → a ≡ b → T (eqb a b)
 from_eq a b e = subst (λ (x : ℕ). T (eqb a x)) e (eqb_refl a)
+
+-- two tests that follow from one another
+pub either_both : (a b : Bool) → (T a → T b) → (T b → T a) → a ≡ b
+either_both true true to fro = refl
+either_both true false to fro = elim (to tt) [ ]
+either_both false true to fro = elim (fro tt) [ ]
+either_both false false to fro = refl

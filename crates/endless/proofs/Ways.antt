@@ -8,7 +8,7 @@ use Rattle.endless.specs.Subgames.{Subgame, Closed}
 use Rattle.endless.specs.Bits.{members, Removed}
 use Rattle.endless.specs.Graph.{moves, times}
 use Rattle.endless.specs.Ways.{ways, queued, Counted, Open, Recounted}
-use Rattle.endless.proofs.Tests.{T_true, true_T}
+use Rattle.endless.proofs.Tests.{T_true, true_T, either_both}
 use Rattle.endless.proofs.CountLaws.{one_if, one_itself, one_other, one_le}
 use Rattle.endless.proofs.Pushed.{pushed_front, pushed_last}
 use Rattle.endless.proofs.Sets.{in_or_out, minus_in}
@@ -48,12 +48,6 @@ ways_among U (k ∷ ms) h = go (ways_among U ms) (cases_Bool (U k))
 pub ways_same : (U V : Set) (ms : List ℕ) → ((m : ℕ) → Among m ms → U m ≡ V m) → ways U ms ≡ ways V ms
 ways_same U V [] same = refl
 ways_same U V (m ∷ ms) same = ap₂ (λ b n. one_if b + n) (same m first) (ways_same U V ms (λ k a. same k (later a)))
-
-either_both : (a b : Bool) → (T a → T b) → (T b → T a) → a ≡ b
-either_both true true to fro = refl
-either_both true false to fro = elim (to tt) [ ]
-either_both false true to fro = elim (fro tt) [ ]
-either_both false false to fro = refl
 
 -- the same set, told otherwise
 pub ways_alike : (U V : Set) → Within U V → Within V U → (ms : List ℕ) → ways U ms ≡ ways V ms

@@ -92,18 +92,22 @@ pub record Ready (g : Game) (ends preds : List ℕ) : Type 0 where
   pub sums : (m : ℕ) → m < length g + 1 → slice_index ends m ≡ upto (entering g) (suc m)
   pub top : edges g ≤ length preds
 
--- a set has the places of side 1 of the first k, and no others
-abbrev pub OddTo : Game → ℕ → List ℕ → Type 0
-OddTo g k odd = (n : ℕ) → (In (members odd) n ↔ ((n < k) × (whose g n ≡ 1)))
+-- a set has a side's places of the first k, and no others
+abbrev pub OwnTo : Game → ℕ → ℕ → List ℕ → Type 0
+OwnTo g w k own = (n : ℕ) → (In (members own) n ↔ ((n < k) × (whose g n ≡ w)))
 
 -- the weights of the first k places stand in the words, which are no greater than weights are
 abbrev pub WeightsTo : Game → ℕ → List ℕ → Type 0
 WeightsTo g k weights = (n : ℕ) → n < k → (slice_index weights n ≡ weight g n) × (slice_index weights n < 256)
 
--- whose each place is, and its weight, in words of their own
-pub record Noted (g : Game) (odd weights : List ℕ) : Type 0 where
-  pub wide : length g ≤ 32 * length odd
-  pub are_odd : OddTo g (length g) odd
-  pub two : (n : ℕ) → n < length g → whose g n < 2
+-- a set of all places of a side, with room for all of the game's
+pub record Own (g : Game) (w : ℕ) (own : List ℕ) : Type 0 where
+  pub wide : length g ≤ 32 * length own
+  pub are : OwnTo g w (length g) own
+
+-- each side's places, and all weights, in words of their own
+pub record Noted (g : Game) (even odd weights : List ℕ) : Type 0 where
+  pub of_even : Own g 0 even
+  pub of_odd : Own g 1 odd
   pub long : length g ≤ length weights
   pub weigh : WeightsTo g (length g) weights

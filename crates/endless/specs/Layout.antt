@@ -17,9 +17,9 @@ use Rattle.endless.specs.declared.layout.Short.{Short}
 abbrev pub width : ℕ → ℕ
 width n = (n + 31) / 32
 
--- how many words the parts take together for n places, m moves and d different weights: where the places start; which are side 1's, and the weights; where their predecessor lists start, and these; the queue with one place more, as many words beside it, and a number for each place; the set of all places and one for each level
+-- how many words the parts take together for n places, m moves and d different weights: where the places start; which are each side's, and the weights; where their predecessor lists start, and these; the queue with one place more, as many words beside it, and a number for each place; the set of all places and one for each level
 abbrev pub needed : ℕ → ℕ → ℕ → ℕ
-needed n m d = ((n + n) + (width n + n) + ((n + 1) + (n + 1) + m)) + (((n + 1) + (n + 1) + n) + (d + 1) * width n)
+needed n m d = ((n + n) + (width n + width n + n) + ((n + 1) + (n + 1) + m)) + (((n + 1) + (n + 1) + n) + (d + 1) * width n)
 
 -- how many words have to be lent for a game: 65,536, and 4 for each of its words
 abbrev pub lent_for : Game → ℕ

@@ -4,6 +4,7 @@ ghost use Rattle.endless.specs.Sets.{Set, In};
 ghost use Rattle.endless.specs.Sides.{number};
 ghost use Rattle.endless.specs.Bits.{members, size};
 ghost use Rattle.endless.specs.Desks.{SameDesk};
+ghost use Rattle.endless.specs.Graph.{Own};
 ghost use Rattle.endless.specs.Ways.{Counted, Open, Untouched};
 ghost use Rattle.endless.specs.Pulling.{Sized, Moved, Unchanged, Starts, Labelled, Attracts};
 
@@ -20,21 +21,23 @@ pub(crate) fn first_into(moves: &[u32], set: &[u32]) -> Option<usize>
     moves.iter().position(|to| bits::has(set, *to))
 }
 
-/// An attractor that is being made: what is left of a subgame, the places that
-/// are attracted, in the order in which they were, with a move beside each, and
-/// for each place that is left how many ways out it still has: of its moves
-/// within the subgame those that no place was looked at for.
+/// An attractor that is being made: the side's own places, what is left of a
+/// subgame, the places that are attracted, in the order in which they were, with
+/// a move beside each, and for each place that is left how many ways out it still
+/// has: of its moves within the subgame those that no place was looked at for.
 // The fields of the desk, and not the desk: tried, and behind a second
 // reference how long the queue may be is not known, so `tail` might wrap.
 #[derive(Drop)]
 struct Attraction<'g, 'r> {
     graph: &'g Graph<'g>,
     side: Side,
+    own: &'g [u32],
     left: &'r mut [u32],
     queue: &'r mut [u32],
     via: &'r mut [u32],
     escapes: &'r mut [u32],
     tail: usize,
+    ghost owned: { Own graph.now (number side) own.now },
     ghost sets: { length graph.now ≤ 32 * length left.now },
     ghost counts: { length graph.now ≤ length escapes.now },
     ghost room: { tail + size left.now < length queue.now },
@@ -61,7 +64,7 @@ impl Attraction<'_, '_> {
         let escapes = &mut *self.escapes;
         let ways = escapes[from as usize] - u32::from(is_left);
         escapes[from as usize] = ways;
-        let is_taken = is_left & ((ways == 0) | self.graph.is_own(self.side, from));
+        let is_taken = is_left & ((ways == 0) | bits::has(self.own, from));
         bits::remove_if(left, from, is_taken);
         self.queue[self.tail] = from;
         self.via[self.tail] = to;
@@ -153,6 +156,7 @@ pub fn attract(
     let mut attraction = Attraction {
         graph: &*graph,
         side,
+        own: graph.own(side),
         left,
         queue: &mut *desk.queue,
         via: &mut *desk.via,

@@ -23,6 +23,16 @@ pub fn insert(set: &mut [u32], i: u32)
     set[(i / 32) as usize] |= 1 << (i % 32);
 }
 
+/// Puts `i` into the set, if that is so.
+// No branch: see `Attraction::pull`.
+pub fn insert_if(set: &mut [u32], i: u32, is_so: bool)
+    requires { i / 32 < length set.old }
+    ensures inserted { is_so ≡ true → Inserted set.old i set.new }
+    ensures kept { is_so ≡ false → set.new ≡ set.old }
+{
+    set[(i / 32) as usize] |= u32::from(is_so) << (i % 32);
+}
+
 /// Takes `i` out of the set.
 pub fn remove(set: &mut [u32], i: u32)
     requires { i / 32 < length set.old }

@@ -1,7 +1,7 @@
 //! A game in words as a graph: where each place's words start, and which places may move to a place.
 ghost use Rattle.std.specs.Prelude.{◌≡◌, ℕ, suc, ◌+◌, ◌*◌, ◌^◌, ◌<◌, ◌≤◌, List, ◌∷◌, length, drop, ◌==◌, slice_index};
 ghost use Rattle.endless.specs.Games.{Place, row, whose, weight};
-ghost use Rattle.endless.specs.Graph.{positions, moves, Placed, Preds, times, upto, Filling, Room, Counts, Entered, entering, edges, Ready, Listed, OddTo, WeightsTo};
+ghost use Rattle.endless.specs.Graph.{positions, moves, Placed, Preds, times, upto, Filling, Room, Counts, Entered, entering, edges, Ready, Listed, OwnTo, Own, WeightsTo};
 ghost use Rattle.endless.specs.Sides.{number};
 ghost use Rattle.endless.specs.View.{Playable};
 
@@ -127,6 +127,7 @@ impl<'a> Places<'a> {
 #[derive(Drop)]
 pub struct Graph<'a> {
     places: Places<'a>,
+    even: &'a [u32],
     odd: &'a [u32],
     weights: &'a [u32],
     offsets: &'a [Halves],
@@ -141,32 +142,36 @@ impl<'a> Model for Graph<'a> {
 
     ghost view = { λ v. v.places };
 
-    ghost invariant = { λ v. Listed v.places (positions v.offsets.now) v.preds.now × Noted v.places v.odd.now v.weights.now };
+    ghost invariant = { λ v. Listed v.places (positions v.offsets.now) v.preds.now × Noted v.places v.even.now v.odd.now v.weights.now };
 }
 
 impl<'a> Graph<'a> {
-    /// The graph of these places; `odd` and `weights` are lent for whose they are and what they weigh, `offsets` and
-    /// `preds` for the lists.
+    /// The graph of these places; `even`, `odd` and `weights` are lent for whose they are and what they weigh, `offsets`
+    /// and `preds` for the lists.
     pub fn new(
         places: Places<'a>,
+        even: &'a mut [u32],
         odd: &'a mut [u32],
         weights: &'a mut [u32],
         offsets: &'a mut [Halves],
         preds: &'a mut [u32],
     ) -> Graph<'a>
+        requires even { length places ≤ 32 * length even.old }
         requires odd { length places ≤ 32 * length odd.old }
         requires weights { length places ≤ length weights.old }
         requires offsets { length offsets.old ≡ length places + 1 }
         requires preds { edges places ≤ length preds.old }
         ensures { result ≡ places.entry }
     {
-        gather_odd(&places, odd);
+        gather_own(&places, Side::Even, even);
+        gather_own(&places, Side::Odd, odd);
         list_weights(&places, weights);
         count_entering(&places, offsets);
         sum_up(offsets);
         list_sources(&places, offsets, preds);
         Graph {
             places,
+            even,
             odd,
             weights,
             offsets,
@@ -217,10 +222,16 @@ impl<'a> Graph<'a> {
         requires { n < length self.now }
         ensures { result ≡ (whose self.now n == number side) }
     {
-        let is_odd = bits::has(self.odd, n);
+        bits::has(self.own(side), n)
+    }
+
+    /// The set of a side's places.
+    pub fn own(&self, side: Side) -> &'a [u32]
+        ensures { Own self.now (number side) result.now }
+    {
         match side {
-            Side::Even => !is_odd,
-            Side::Odd => is_odd,
+            Side::Even => self.even,
+            Side::Odd => self.odd,
         }
     }
 
@@ -245,17 +256,15 @@ impl<'a> Graph<'a> {
     }
 }
 
-/// Makes the set the places of side 1.
-fn gather_odd(places: &Places, odd: &mut [u32])
-    requires { length places.now ≤ 32 * length odd.old }
-    ensures are { OddTo places.now (length places.now) odd.new }
-    ensures two { (n : ℕ) → n < length places.now → whose places.now n < 2 }
+/// Makes the set the places of a side.
+fn gather_own(places: &Places, side: Side, own: &mut [u32])
+    requires { length places.now ≤ 32 * length own.old }
+    ensures { OwnTo places.now (number side) (length places.now) own.new }
 {
-    bits::fill(odd, 0);
+    bits::fill(own, 0);
     for place in 0..places.len() {
-        if places.is_own(Side::Odd, place) {
-            bits::insert(odd, place);
-        }
+        let is_own = places.is_own(side, place);
+        bits::insert_if(own, place, is_own);
     }
 }
 

@@ -82,12 +82,13 @@ pub fn lay_out<'a>(accepted: Accepted<'a>) -> Layout<'a>
     let (starts, work) = work.split_at_mut(2 * places);
     let (starts, _) = starts.as_chunks_mut::<2>();
     let view = Places::new(game, starts);
+    let (even, work) = work.split_at_mut(places.div_ceil(32));
     let (odd, work) = work.split_at_mut(places.div_ceil(32));
     let (weights, work) = work.split_at_mut(places);
     let (offsets, work) = work.split_at_mut(2 * (places + 1));
     let (preds, work) = work.split_at_mut(moves);
     let (offsets, _) = offsets.as_chunks_mut::<2>();
-    let graph = Graph::new(view, odd, weights, offsets, preds);
+    let graph = Graph::new(view, even, odd, weights, offsets, preds);
     let (queue, work) = work.split_at_mut(places + 1);
     let (via, work) = work.split_at_mut(places + 1);
     let (escapes, work) = work.split_at_mut(places);
