@@ -1,9 +1,11 @@
 -- Places put into new parts, one after the other.
-use Rattle.std.proofs.Common.{◌≡◌, ℕ, suc, ◌+◌, ◌<◌, ◌≤◌, ◌⊎◌, List, length, get_or, set, sym, ap, ◌∙◌, subst, inl, inr, arith}
+use Rattle.std.proofs.Common.{◌≡◌, ℕ, suc, ◌+◌, ◌<◌, ◌≤◌, ◌⊎◌, List, length, get_or, set, sym, refl, ap, ◌∙◌, subst, inl, inr, arith}
 use Rattle.std.proofs.lemmas.List.{get_or-set_same, get_or-set_other}
 use Rattle.std.proofs.lemmas.Nat.{mod_below}
 use Rattle.std.proofs.lemmas.Bool.{cases_eq, cases_lt}
 use Rattle.endless.specs.Games.{Game}
+use Rattle.quotient.specs.Groups.{SameGroups}
+use Rattle.quotient.specs.declared.group.Groups.{Groups}
 use Rattle.quotient.specs.Refining.{part, Alike, look, Linked, here, next, Descends, Grouping, Grouped}
 use Rattle.quotient.proofs.Sames.{same_self, same_back, same_then, same_bucket}
 use Rattle.quotient.proofs.Chains.{linked_cases, linked_none, relink}
@@ -20,7 +22,7 @@ grouping_none g parts list made heads links h l = record {
   descends = λ k. omega (arith, l k);
 }
 
-module _ {g : Game} {parts list made heads links : List ℕ} {i : ℕ} (so_far : Grouping g parts list made heads links i) (more : i < length list) (long : length made ≡ length list) where
+module _ {g : Game} {parts list made heads links : List ℕ} {i : ℕ} (so_far : Grouping g parts list made heads links i) (more : i < length list) (long : length list ≤ length made) where
   -- those before stay as they are
   before : (x n : ℕ) → n < i → part (set made i x) n ≡ part made n
   before x n h = get_or-set_other made i n x 0 (λ e. omega arith)
@@ -205,3 +207,10 @@ grouping_all {g} {parts} {list} {made} {i = i} all k = record {
     one n m h j x (inl a) c = absurd (k.apart (part made n) (part made m) a (omega (arith, k.low m j)) (k.lead n h) (k.lead m j) (same_back x))
     one n m h j x (inr a) (inl c) = absurd (k.apart (part made m) (part made n) c (omega (arith, k.low n h)) (k.lead m j) (k.lead n h) x)
     one n m h j x (inr a) (inr c) = omega arith
+
+-- the same lent words, after no call and after two
+pub groups_none : (a : Groups) → SameGroups a a
+groups_none a = record { made = refl; heads = refl; links = refl; set = refl; made_long = refl; heads_long = refl; links_long = refl; set_long = refl }
+
+pub groups_then : {a b c : Groups} → SameGroups a b → SameGroups b c → SameGroups a c
+groups_then s t = record { made = t.made ∙ s.made; heads = t.heads ∙ s.heads; links = t.links ∙ s.links; set = t.set ∙ s.set; made_long = t.made_long ∙ s.made_long; heads_long = t.heads_long ∙ s.heads_long; links_long = t.links_long ∙ s.links_long; set_long = t.set_long ∙ s.set_long }

@@ -1,5 +1,5 @@
 -- A round: what holds between two rounds holds after it.
-use Rattle.std.proofs.Common.{◌≡◌, ℕ, ◌<◌, ◌≤◌, T, ◌⊎◌, List, length, get_or, take, sym, ap, ◌∙◌, subst, inl, inr, arith}
+use Rattle.std.proofs.Common.{◌≡◌, ℕ, ◌<◌, ◌≤◌, T, ◌⊎◌, List, length, get_or, take, sym, refl, ap, ◌∙◌, subst, inl, inr, arith}
 use Rattle.std.proofs.lemmas.List.{get_or-take, length-take-le}
 use Rattle.std.proofs.lemmas.Bool.{cases_lt}
 use Rattle.endless.specs.Games.{Game, May}
@@ -10,6 +10,8 @@ use Rattle.endless.proofs.Places.{to_place}
 use Rattle.endless.proofs.Tests.{either_way}
 use Rattle.quotient.specs.Gathering.{Into, Nothing}
 use Rattle.quotient.specs.Refining.{part, Leads, Same, Sound, Stable}
+use Rattle.quotient.specs.Partitions.{SamePartition}
+use Rattle.quotient.specs.declared.round.Partition.{Partition}
 use Rattle.quotient.specs.Rounds.{Sized, Taken, Fresh, Stirred, Named, Parting, Between}
 use Rattle.quotient.proofs.Sames.{into_among, among_into, same_back, alike_same}
 use Rattle.quotient.proofs.Returns.{named_few}
@@ -123,3 +125,10 @@ which_front g fresh out {listed} few which n x =
     let t = which n x in
     let h : t.0 < listed = omega (arith, t.1) in
     (t.0, h, subst (May g n) (get_or-take listed fresh t.0 0 h) t.2)
+
+-- the same lent words, after no call and after two
+pub partition_none : (a : Partition) → SamePartition a a
+partition_none a = record { parts = refl; sizes = refl; out = refl; parts_long = refl; sizes_long = refl; out_long = refl }
+
+pub partition_then : {a b c : Partition} → SamePartition a b → SamePartition b c → SamePartition a c
+partition_then s t = record { parts = t.parts ∙ s.parts; sizes = t.sizes ∙ s.sizes; out = t.out ∙ s.out; parts_long = t.parts_long ∙ s.parts_long; sizes_long = t.sizes_long ∙ s.sizes_long; out_long = t.out_long ∙ s.out_long }

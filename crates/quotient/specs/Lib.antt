@@ -3,6 +3,8 @@ pub mod Alike
 pub mod Says
 pub mod Gathering
 pub mod Refining
+pub mod Groups
+pub mod Partitions
 pub mod Rounds
 pub mod Numbering
 pub mod Writing

@@ -2,6 +2,7 @@
 ghost use Rattle.std.specs.Prelude.{◌≡◌, ℕ, ◌*◌, ◌<◌, ◌≤◌, length, slice_index, MatchOption};
 ghost use Rattle.endless.specs.Graph.{moves};
 ghost use Rattle.quotient.specs.Gathering.{Nothing};
+ghost use Rattle.quotient.specs.Groups.{SameGroups};
 ghost use Rattle.quotient.specs.Refining.{part, InParts, Same, scattered, greatest, bucket, Linked, Descends, Grouped};
 
 use crate::alike::is_same;
@@ -74,27 +75,37 @@ fn find(
     None
 }
 
+/// What places are put into groups in: for each place of a list where the first
+/// of its group stands there, these first places in chains, one for each bucket,
+/// and a set of parts, which is empty before and after.
+#[derive(Drop)]
+pub(crate) struct Groups<'r> {
+    pub(crate) made: &'r mut [u32],
+    pub(crate) heads: &'r mut [u32],
+    pub(crate) links: &'r mut [u32],
+    pub(crate) set: &'r mut [u32],
+}
+
 /// Puts the places of a list into groups, of those that the parts do not tell
 /// apart: writes for each where the first of its group stands in the list.
-pub(crate) fn group(
-    places: &Places,
-    parts: &[u32],
-    list: &[u32],
-    made: &mut [u32],
-    heads: &mut [u32],
-    links: &mut [u32],
-    set: &mut [u32],
-)
-    requires parted { InParts places.now parts.now (length set.old) }
+pub(crate) fn group(places: &Places, parts: &[u32], list: &[u32], groups: &mut Groups)
+    requires parted { InParts places.now parts.now (length groups.old.set.now) }
     requires list { (j : ℕ) → j < length list.now → slice_index list.now j < length places.now }
     requires few { length list.now ≤ length places.now }
-    requires made { length made.old ≡ length list.now }
-    requires heads { length heads.old ≡ length list.now }
-    requires links { length links.old ≡ length list.now }
-    requires empty { Nothing set.old }
-    ensures grouped { Grouped places.now parts.now list.now made.new }
-    ensures empty { Nothing set.new }
+    requires made { length list.now ≤ length groups.old.made.now }
+    requires heads { length list.now ≤ length groups.old.heads.now }
+    requires links { length list.now ≤ length groups.old.links.now }
+    requires empty { Nothing groups.old.set.now }
+    ensures grouped { Grouped places.now parts.now list.now groups.new.made.now }
+    ensures same { SameGroups groups.old groups.new }
+    ensures empty { Nothing groups.new.set.now }
 {
+    let made = &mut *groups.made;
+    let heads = &mut *groups.heads;
+    let links = &mut *groups.links;
+    let set = &mut *groups.set;
+    let (heads, _) = heads.split_at_mut(list.len());
+    let (links, _) = links.split_at_mut(list.len());
     heads.fill(0);
     links.fill(0);
     for i in 0..list.len() {

@@ -4,10 +4,12 @@ ghost use Rattle.endless.specs.Games.{May};
 ghost use Rattle.endless.specs.Sets.{In};
 ghost use Rattle.endless.specs.Bits.{members};
 ghost use Rattle.quotient.specs.Gathering.{Nothing};
+ghost use Rattle.quotient.specs.Groups.{SameGroups};
 ghost use Rattle.quotient.specs.Refining.{part, InParts};
+ghost use Rattle.quotient.specs.Partitions.{SamePartition};
 ghost use Rattle.quotient.specs.Rounds.{Sized, Taken, Fresh, Named, Parting, Between};
 
-use crate::group::group;
+use crate::group::{Groups, group};
 use endless::bits;
 use endless::graph::{Graph, Places};
 
@@ -92,42 +94,54 @@ fn number_for(parts: &[u32], sizes: &[u32], list: &[u32], i: usize, lead: u32, n
     if sizes[own as usize] == 0 { own } else { next }
 }
 
+/// Places in parts: for each place its part, for each part how many of its
+/// places are not out, and the set of those that are.
+// Not the list of places in new parts, which `round` reads while it changes
+// these: for that the borrow checker has no rule within what one reference lends.
+#[derive(Drop)]
+pub(crate) struct Partition<'r> {
+    pub(crate) parts: &'r mut [u32],
+    pub(crate) sizes: &'r mut [u32],
+    pub(crate) out: &'r mut [u32],
+}
+
 /// Puts the places of the list in again, group by group, and lists those that
 /// came to a part that is new. How many parts there are, and how many places
 /// are listed.
 fn put_in(
     places: &Places,
-    parts: &mut [u32],
-    sizes: &mut [u32],
+    partition: &mut Partition,
     fresh: &mut [u32],
     list: &[u32],
-    made: &mut [u32],
-    heads: &mut [u32],
-    links: &mut [u32],
-    set: &mut [u32],
-    out: &mut [u32],
+    groups: &mut Groups,
     count: u32,
 ) -> (u32, usize)
-    requires parted { InParts places.now parts.old (length set.old) }
-    requires sizes { length places.now < length sizes.old }
+    requires parted { InParts places.now partition.old.parts.now (length groups.old.set.now) }
+    requires sizes { length places.now < length partition.old.sizes.now }
     requires fresh { length places.now ≤ length fresh.old }
-    requires out { length places.now ≤ 32 * length out.old }
-    requires made { length made.old ≡ length list.now }
-    requires heads { length heads.old ≡ length list.now }
-    requires links { length links.old ≡ length list.now }
-    requires empty { Nothing set.old }
+    requires out { length places.now ≤ 32 * length partition.old.out.now }
+    requires made { length list.now ≤ length groups.old.made.now }
+    requires heads { length list.now ≤ length groups.old.heads.now }
+    requires links { length list.now ≤ length groups.old.links.now }
+    requires empty { Nothing groups.old.set.now }
     requires few { length list.now ≤ length places.now }
-    requires taken { Taken places.now parts.old sizes.old list.now out.old (length list.now) }
-    requires named { Named places.now parts.old count }
-    ensures parting { Parting places.now parts.old list.now parts.new count }
-    ensures sized { Sized places.now parts.new out.new sizes.new }
-    ensures none_out { Nothing out.new }
-    ensures named { Named places.now parts.new result.0 }
-    ensures fresh { Fresh places.now parts.new fresh.new count result.1 }
+    requires taken { Taken places.now partition.old.parts.now partition.old.sizes.now list.now partition.old.out.now (length list.now) }
+    requires named { Named places.now partition.old.parts.now count }
+    ensures parting { Parting places.now partition.old.parts.now list.now partition.new.parts.now count }
+    ensures sized { Sized places.now partition.new.parts.now partition.new.out.now partition.new.sizes.now }
+    ensures none_out { Nothing partition.new.out.now }
+    ensures named { Named places.now partition.new.parts.now result.0 }
+    ensures fresh { Fresh places.now partition.new.parts.now fresh.new count result.1 }
     ensures more { count ≤ result.0 }
-    ensures empty { Nothing set.new }
+    ensures still { SamePartition partition.old partition.new }
+    ensures same { SameGroups groups.old groups.new }
+    ensures empty { Nothing groups.new.set.now }
 {
-    group(places, parts, list, made, heads, links, set);
+    let parts = &mut *partition.parts;
+    let sizes = &mut *partition.sizes;
+    let out = &mut *partition.out;
+    group(places, parts, list, groups);
+    let made = &*groups.made;
     let mut many = count;
     let mut listed = 0;
     for i in 0..list.len() {
@@ -150,47 +164,32 @@ fn put_in(
 /// How many parts there are then, and how many places are in new ones.
 pub(crate) fn round(
     graph: &Graph,
-    parts: &mut [u32],
-    sizes: &mut [u32],
+    partition: &mut Partition,
     fresh: &mut [u32],
     list: &mut [u32],
-    made: &mut [u32],
-    heads: &mut [u32],
-    links: &mut [u32],
-    set: &mut [u32],
-    out: &mut [u32],
+    groups: &mut Groups,
     count: u32,
     listed: usize,
 ) -> (u32, usize)
-    requires between { (first : ℕ) × Between graph.now parts.old sizes.old fresh.old out.old (length set.old) first count listed }
-    requires sizes { length graph.now < length sizes.old }
+    requires between { (first : ℕ) × Between graph.now partition.old.parts.now partition.old.sizes.now fresh.old partition.old.out.now (length groups.old.set.now) first count listed }
+    requires sizes { length graph.now < length partition.old.sizes.now }
     requires fresh { length graph.now ≤ length fresh.old }
     requires list { length graph.now ≤ length list.old }
-    requires made { length graph.now ≤ length made.old }
-    requires heads { length graph.now ≤ length heads.old }
-    requires links { length graph.now ≤ length links.old }
-    requires out { length graph.now ≤ 32 * length out.old }
-    requires empty { Nothing set.old }
-    ensures between { Between graph.now parts.new sizes.new fresh.new out.new (length set.new) count result.0 result.1 }
+    requires made { length graph.now ≤ length groups.old.made.now }
+    requires heads { length graph.now ≤ length groups.old.heads.now }
+    requires links { length graph.now ≤ length groups.old.links.now }
+    requires out { length graph.now ≤ 32 * length partition.old.out.now }
+    requires empty { Nothing groups.old.set.now }
+    ensures between { Between graph.now partition.new.parts.now partition.new.sizes.now fresh.new partition.new.out.now (length groups.new.set.now) count result.0 result.1 }
     ensures more { count ≤ result.0 }
-    ensures empty { Nothing set.new }
+    ensures still { SamePartition partition.old partition.new }
+    ensures same { SameGroups groups.old groups.new }
+    ensures empty { Nothing groups.new.set.now }
 {
+    let parts = &mut *partition.parts;
+    let sizes = &mut *partition.sizes;
+    let out = &mut *partition.out;
     let many = take_all_out(graph, &fresh[..listed], parts, sizes, list, out);
     let (list, _) = list.split_at_mut(many);
-    let (made, _) = made.split_at_mut(many);
-    let (heads, _) = heads.split_at_mut(many);
-    let (links, _) = links.split_at_mut(many);
-    put_in(
-        graph.places(),
-        parts,
-        sizes,
-        fresh,
-        list,
-        made,
-        heads,
-        links,
-        set,
-        out,
-        count,
-    )
+    put_in(graph.places(), partition, fresh, list, groups, count)
 }

@@ -3,8 +3,10 @@ ghost use Rattle.std.specs.Prelude.{◌≡◌, ℕ, ◌≤◌, length, slice_ind
 ghost use Rattle.endless.specs.View.{words_of};
 ghost use Rattle.quotient.specs.Promises.{Merges, MergedPost};
 
+use crate::group::Groups;
 use crate::number::number;
 use crate::refine::settle;
+use crate::round::Partition;
 use crate::write::write;
 use endless::accepted::Accepted;
 use endless::layout::Layout;
@@ -60,9 +62,14 @@ fn merge_game(accepted: Accepted, to: &mut [u32], smaller: &mut [u32]) -> usize
     let (out, _) = rest.split_at_mut(all.len());
     bits::clear(all);
     bits::clear(out);
-    settle(
-        &graph, told, parts, sizes, fresh, list, made, heads, links, all, out,
-    );
+    let mut partition = Partition { parts, sizes, out };
+    let mut groups = Groups {
+        made,
+        heads,
+        links,
+        set: &mut *all,
+    };
+    settle(&graph, told, &mut partition, fresh, list, &mut groups);
     let places = graph.places();
     let count = number(places, told, to);
     write(places, told, to, count, all, smaller)

@@ -7,7 +7,7 @@ use Rattle.quotient.proofs.group.group.Goals.{in-Some, in-None}
 
 pub loop-i-init : goal.loop-i-init
 loop-i-init c = record {
-  grouping = grouping_none c.args.places.now c.args.parts.now c.args.list.now c.args.made.now c.fill.new.self c.fill-2.new.self (zero_at _ (c.fill.ensures.after (λ y e. e))) (zero_at _ (c.fill-2.ensures.after (λ y e. e)));
+  grouping = grouping_none c.args.places.now c.args.parts.now c.args.list.now c.args.groups.now.made.now c.fill.new.self c.fill-2.new.self (zero_at _ (c.fill.ensures.after (λ y e. e))) (zero_at _ (c.fill-2.ensures.after (λ y e. e)));
   empty = c.requires.empty;
 }
 

@@ -2,7 +2,8 @@ use Rattle.std.proofs.Common.{◌∙◌, arith}
 use Rattle.std.proofs.lemmas.List.{get_or-set_same, get_or-set_other}
 use Rattle.quotient.proofs.Zeros.{zero_at}
 use Rattle.quotient.proofs.Firsts.{told_parted, told_sound, told_stable, between_all}
-use Rattle.quotient.proofs.Rounds.{stable}
+use Rattle.quotient.proofs.Groups.{groups_none, groups_then}
+use Rattle.quotient.proofs.Rounds.{stable, partition_none, partition_then}
 use Rattle.quotient.proofs.refine.settle.Goals as goal
 
 pub loop-first-init : goal.loop-first-init
@@ -19,7 +20,17 @@ loop-first-init c =
           (λ j h. c.list_all.ensures j (omega (arith, c.len-2.ensures.len)))
           (omega (arith, c.list_all.auto.list, c.requires.fresh)) c.requires.none_out;
       empty = c.requires.empty;
+      still = partition_none _;
+      same = groups_none c.args.groups.now;
     })
+
+pub loop-first-preserved : goal.loop-first-preserved
+loop-first-preserved c = record {
+  between = c.round-next.ensures.between;
+  empty = c.round-next.ensures.empty;
+  still = partition_then c.loop-first.invariant.still c.round-next.ensures.still;
+  same = groups_then c.loop-first.invariant.same c.round-next.ensures.same;
+}
 
 pub returns-clause-stable : goal.returns-clause-stable
 returns-clause-stable c =

@@ -12,14 +12,14 @@ take_all_out-many-requires-clause-fresh c = fresh_front c.requires.between.1.fre
 pub split_at_mut-list-requires : goal.split_at_mut-list-requires
 split_at_mut-list-requires c = omega (arith, taken_few c.take_all_out-many.ensures.taken, c.take_all_out-many.auto.list, c.requires.list)
 
-pub split_at_mut-made-requires : goal.split_at_mut-made-requires
-split_at_mut-made-requires c = omega (arith, taken_few c.take_all_out-many.ensures.taken, c.requires.made)
+pub put_in-requires-clause-made : goal.put_in-requires-clause-made
+put_in-requires-clause-made c = omega (arith, taken_few c.take_all_out-many.ensures.taken, c.split_at_mut-list.ensures.front_len, c.requires.made)
 
-pub split_at_mut-heads-requires : goal.split_at_mut-heads-requires
-split_at_mut-heads-requires c = omega (arith, taken_few c.take_all_out-many.ensures.taken, c.requires.heads)
+pub put_in-requires-clause-heads : goal.put_in-requires-clause-heads
+put_in-requires-clause-heads c = omega (arith, taken_few c.take_all_out-many.ensures.taken, c.split_at_mut-list.ensures.front_len, c.requires.heads)
 
-pub split_at_mut-links-requires : goal.split_at_mut-links-requires
-split_at_mut-links-requires c = omega (arith, taken_few c.take_all_out-many.ensures.taken, c.requires.links)
+pub put_in-requires-clause-links : goal.put_in-requires-clause-links
+put_in-requires-clause-links c = omega (arith, taken_few c.take_all_out-many.ensures.taken, c.split_at_mut-list.ensures.front_len, c.requires.links)
 
 pub put_in-requires-clause-few : goal.put_in-requires-clause-few
 put_in-requires-clause-few c =
@@ -41,10 +41,10 @@ returns-clause-between c =
     let list = c.split_at_mut-list.result.0.now in
     let front : list ≡ take c.take_all_out-many.result c.take_all_out-many.new.list = c.split_at_mut-list.ensures.front in
     let room : c.take_all_out-many.result ≤ length c.take_all_out-many.new.list = omega (arith, taken_few all.taken, c.take_all_out-many.auto.list, c.requires.list) in
-    let taken : Taken g c.args.parts.now c.take_all_out-many.new.sizes list c.take_all_out-many.new.out (length list) =
-    subst (λ (l : List ℕ). Taken g c.args.parts.now c.take_all_out-many.new.sizes l c.take_all_out-many.new.out (length l)) (sym front) (taken_front all.taken room) in
-    let t = subst (λ (k : Game). Parting k c.args.parts.now list c.put_in.new.parts c.args.count × Sized k c.put_in.new.parts c.put_in.new.out c.put_in.new.sizes × Named k c.put_in.new.parts c.put_in.result.0 × Fresh k c.put_in.new.parts c.put_in.new.fresh c.args.count c.put_in.result.1)
+    let taken : Taken g c.args.partition.now.parts.now c.take_all_out-many.new.sizes list c.take_all_out-many.new.out (length list) =
+    subst (λ (l : List ℕ). Taken g c.args.partition.now.parts.now c.take_all_out-many.new.sizes l c.take_all_out-many.new.out (length l)) (sym front) (taken_front all.taken room) in
+    let t = subst (λ (k : Game). Parting k c.args.partition.now.parts.now list c.put_in.new.partition.parts.now c.args.count × Sized k c.put_in.new.partition.parts.now c.put_in.new.partition.out.now c.put_in.new.partition.sizes.now × Named k c.put_in.new.partition.parts.now c.put_in.result.0 × Fresh k c.put_in.new.partition.parts.now c.put_in.new.fresh c.args.count c.put_in.result.1)
     c.places.ensures (back.parting, back.sized, back.named, back.fresh) in
-    let long : length c.put_in.new.parts ≡ length g = omega (arith, c.put_in.auto.parts, before.in_parts.long) in
-    rw c.put_in.auto.set
+    let long : length c.put_in.new.partition.parts.now ≡ length g = omega (arith, c.put_in.ensures.still.parts_long, before.in_parts.long) in
+    rw c.put_in.ensures.same.set_long
     (between before taken (came_front g c.args.fresh.now c.take_all_out-many.new.out before.fresh.few all.came) (which_front g c.args.fresh.now c.take_all_out-many.new.out before.fresh.few all.which) t.0 long t.1 back.none_out t.2 t.3)

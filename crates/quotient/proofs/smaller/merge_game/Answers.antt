@@ -40,7 +40,7 @@ settle-requires-clause-none_out c = size_nothing c.clear-2.new.set c.clear-2.ens
 pub returns : goal.returns
 returns c =
     let told = c.settle.new.told in
-    let words = length c.settle.new.set in
+    let words = length c.settle.new.groups.set.now in
     let same : c.lay_out-graph.result.graph ≡ c.places-places.result.now = sym c.places-places.ensures in
     let is : c.places-places.result.now ≡ c.args.accepted.game = c.places-places.ensures ∙ c.lay_out-graph.ensures.is in
     subst (λ (g : Game). Merges g c.args.to.now c.args.smaller.now c.number-count.new.numbers c.write.new.words c.write.result) is
