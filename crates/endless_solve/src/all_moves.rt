@@ -66,3 +66,40 @@ fn place_line<W: Write>(
     }
     writeln!(out)
 }
+
+#[cfg(test)]
+mod tests {
+    use super::*;
+    use endless::words::GameWords;
+    use std::test::Fail;
+
+    // well is side 0's, weight 2, to itself, pump or dry; pump is side 1's, weight
+    // 1, to well; dry is side 1's, weight 1, to itself.
+    const WORDS: [u32; 15] = [3, 0, 2, 3, 0, 1, 2, 1, 1, 1, 0, 1, 1, 1, 2];
+
+    // Who stays at well, or comes back to it from pump, meets 2 again and again,
+    // and nothing heavier; at dry there is 1 for ever.
+    #[test]
+    fn all_that_comes_back_to_the_well(rt: HostRuntime) -> Result<(), Fail> {
+        let heap = rt.alloc();
+        let mut names = Vec::new(heap);
+        for name in ["well", "pump", "dry"] {
+            names.push(String::from_str(heap, name)?)?;
+        }
+        let Ok(marks) = find(heap, &WORDS) else {
+            return Err(Fail::new("refused"));
+        };
+        let Some(game) = GameWords::read(&WORDS) else {
+            return Err(Fail::new("no game"));
+        };
+        let mut starts = vec![in heap; [0, 0]; game.len() as usize]?;
+        let places = Places::new(game, starts.as_mut_slice());
+        let mut out = Vec::new(heap);
+        lines(&mut out, names.as_slice(), &places, marks.as_slice())?;
+        assert_eq!(rt;
+            out.as_slice(),
+            b"well 0 well pump\npump 0 -\ndry 1 dry\n".as_slice()
+        );
+        Ok(())
+    }
+}

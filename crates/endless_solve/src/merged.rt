@@ -39,3 +39,41 @@ fn firsts<T: Drop>(heap: Global, labels: Vec<T>, to: &[u32]) -> Result<Vec<T>, A
     }
     Ok(kept)
 }
+
+#[cfg(test)]
+mod tests {
+    use super::*;
+    use std::test::Fail;
+
+    // north and south are side 0's, weight 2, each to the other; sea is side 1's,
+    // weight 1, to itself and to north.
+    const WORDS: [u32; 14] = [3, 0, 2, 1, 1, 0, 2, 1, 0, 1, 1, 2, 2, 0];
+
+    // North and south are alike, and are one place, called north, which moves to
+    // itself; sea moves to it and to itself, in this order.
+    #[test]
+    fn two_towns_are_one(rt: HostRuntime) -> Result<(), Fail> {
+        let heap = rt.alloc();
+        let mut names = Vec::new(heap);
+        for name in ["north", "south", "sea"] {
+            names.push(String::from_str(heap, name)?)?;
+        }
+        let mut words = Vec::new(heap);
+        for word in WORDS {
+            words.push(word)?;
+        }
+        let labels = Labels::Names(names);
+        let Ok(merged) = smaller(heap, Source { words, labels }) else {
+            return Err(Fail::new("refused"));
+        };
+        let Source { words, labels } = merged;
+        assert_eq!(rt; words.as_slice(), [2, 0, 2, 1, 0, 1, 1, 2, 0, 1].as_slice());
+        let names = labels.into_names(heap)?;
+        let [first, second] = names.as_slice() else {
+            return Err(Fail::new("not two names"));
+        };
+        assert_eq!(rt; first.as_str(), "north");
+        assert_eq!(rt; second.as_str(), "sea");
+        Ok(())
+    }
+}
