@@ -1,5 +1,5 @@
 //! A solved game to play on.
-ghost use Rattle.std.specs.Prelude.{◌≡◌, ◌<◌, length, All, IfOk, IfSome, MatchOption};
+ghost use Rattle.std.specs.Prelude.{◌≡◌, ◌<◌, [], length, All, IfOk, IfSome, MatchOption};
 ghost use Rattle.endless.specs.Games.{Game, Reads, whose, weight};
 ghost use Rattle.endless.specs.Graph.{moves};
 ghost use Rattle.endless.specs.Says.{side, goes};
@@ -56,7 +56,10 @@ pub struct Room {
 
 impl Room {
     /// Room of which nothing was made yet.
-    pub fn new(heap: Global) -> Room {
+    pub fn new(heap: Global) -> Room
+        ensures answer { result.answer.items ≡ [] }
+        ensures starts { result.starts.items ≡ [] }
+    {
         Room {
             answer: Vec::new(heap),
             starts: Vec::new(heap),
@@ -203,6 +206,19 @@ mod tests {
         assert_eq!(rt; (answer[0], answer[1]), (0, 1));
         assert_eq!(rt; answer[2], 0);
         assert_eq!(rt; (answer[4], answer[5]), (1, 2));
+        Ok(())
+    }
+
+    #[test]
+    fn a_board_is_made_on_the_heap(rt: HostRuntime) -> Result<(), Fail> {
+        let heap = rt.alloc();
+        let mut room = Room::new(heap);
+        let board = Board::solve_in(heap, &THREE, &mut room)?.expect(&rt, "it is a game");
+        assert_eq!(rt; board.len(), 3);
+        assert_eq!(rt; board.weight(2), 3);
+        assert_eq!(rt; board.moves(0), [1, 2].as_slice());
+        let mut room = Room::new(heap);
+        assert!(rt; Board::solve_in(heap, &THREE[1..], &mut room)?.is_none());
         Ok(())
     }
 

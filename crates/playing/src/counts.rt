@@ -23,6 +23,29 @@ impl Model for Counts {
     ghost view = { λ c. c.times };
 }
 
+/// Any 256 numbers, the one of weight 0 first.
+impl From<[u32; KINDS]> for Counts {
+    ghost use Rattle.std.specs.Prelude.{◌≡◌};
+
+    ghost from_gives = { λ times counts. counts ≡ times };
+
+    fn from(times: [u32; KINDS]) -> Counts {
+        Counts { times }
+    }
+}
+
+/// The 256 numbers again.
+impl From<Counts> for [u32; KINDS] {
+    ghost use Rattle.std.specs.Prelude.{◌≡◌};
+
+    ghost from_gives = { λ counts times. times ≡ counts };
+
+    fn from(counts: Counts) -> [u32; KINDS] {
+        let Counts { times } = counts;
+        times
+    }
+}
+
 impl Counts {
     /// No weight stands there yet.
     pub fn new() -> Counts

@@ -39,7 +39,12 @@ impl fmt::Display for Fault {
     fn fmt<W: fmt::Write>(&self, f: &mut fmt::Formatter<W>) -> fmt::Result {
         match self {
             Fault::Usage => f.write_str("usage: random_play FILE MOVES"),
-            Fault::Unread(why) => write!(f, "{why}"),
+            Fault::Unread(why) => match why {
+                Unread::NotText => f.write_str("the file is not UTF-8"),
+                // Without the refused line: one line tells why.
+                Unread::Refused { why, .. } => write!(f, "{why}"),
+                other => write!(f, "{other}"),
+            },
             Fault::NoGame => f.write_str("no game"),
             Fault::Wrong { from, to } => write!(
                 f,
