@@ -195,7 +195,7 @@ pub fn level_by_parts(
     ensures solves { Subgame graph.now (members own.old) → Solves graph.now (members own.old) (side desk.new.out.now) (goes desk.new.out.now) }
 {
     let places = graph.places();
-    let mut order = Order::default();
+    let mut order = Order::new();
     let mut remaining = many;
     while remaining > 0 {
         let start = find_start(

@@ -36,7 +36,7 @@ pub fn find_starts(game: &GameWords, starts: &mut [Halves])
 }
 
 /// The places of a game: its words, and where each place's words start. In contracts it is the game.
-#[derive(Drop)]
+#[derive(Clone, Drop)]
 pub struct Places<'a> {
     game: GameWords<'a>,
     starts: &'a [Halves],
@@ -124,7 +124,7 @@ impl<'a> Places<'a> {
 /// A game as a graph: its places, and for each place the list of those that may move to it. In contracts it is the game.
 // Whose a place is and its weight are asked for most. They stand in words of their own besides, as the places' words lie
 // far apart.
-#[derive(Drop)]
+#[derive(Clone, Drop)]
 pub struct Graph<'a> {
     places: Places<'a>,
     even: &'a [u32],

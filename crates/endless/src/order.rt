@@ -3,7 +3,7 @@
 //! Nothing is promised of what is found here but that finding it is safe: a
 //! part that begins at any place is closed, and one that begins in a bottom
 //! strongly connected part is small.
-ghost use Rattle.std.specs.Prelude.{◌*◌, ◌^◌, ◌<◌, length};
+ghost use Rattle.std.specs.Prelude.{◌≡◌, ◌*◌, ◌^◌, ◌<◌, length};
 
 use crate::bits;
 use crate::components::{View, Walk, is_in, write};
@@ -52,6 +52,15 @@ impl Effort {
 pub struct Order {
     pub kept: usize,
     at: usize,
+}
+
+impl Order {
+    /// No order is kept.
+    pub fn new() -> Order
+        ensures { result.kept ≡ 0 }
+    {
+        Order::default()
+    }
 }
 
 /// The index of the first place of the order, from `from` on, that is left.

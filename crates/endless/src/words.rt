@@ -27,7 +27,7 @@ pub fn is_game(words: &[u32]) -> bool
 }
 
 /// Words that are a game. In contracts they are the game.
-#[derive(Drop)]
+#[derive(Clone, Drop)]
 pub struct GameWords<'a> {
     words: &'a [u32],
 }
