@@ -69,7 +69,7 @@ impl Room {
 
 /// A game and its answer, with where each place's words start, so that what
 /// is asked of a place costs no more than its moves.
-#[derive(Drop)]
+#[derive(Clone, Drop)]
 pub struct Board<'a> {
     places: Places<'a>,
     answer: &'a [u32],
