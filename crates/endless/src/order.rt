@@ -112,18 +112,18 @@ fn make_order<'a>(
     size: usize,
     spare: &'a mut [u32],
     queue: &'a mut [u32],
+    numbers: &'a mut [u32],
     effort: &mut Effort,
 ) -> Order
     requires { 32 * length own.now < 2 ^ 32 }
 {
     let all = places.len() as usize;
     effort.spend(size);
-    if size <= SMALL || effort.steps < effort.next || spare.len() < (2 * all).saturating_add(size) {
+    if size <= SMALL || effort.steps < effort.next || spare.len() < all.saturating_add(size) {
         return Order::default();
     }
-    let front = spare.len() - 2 * all;
-    let (list, spare) = spare.split_at_mut(front);
-    let (numbers, cursors) = spare.split_at_mut(all);
+    let front = spare.len() - all;
+    let (list, cursors) = spare.split_at_mut(front);
     clear(own, numbers);
     let mut listing = Listing {
         places,
@@ -147,20 +147,23 @@ fn make_order<'a>(
 }
 
 /// A place of what is left of a level from which few places can be come to,
-/// if one is known or it is worth while to look for one.
+/// if one is known or it is worth while to look for one. A queue and a number
+/// for each place are lent to the walk that looks, and hold anything before and
+/// after.
 pub fn find_start(
     places: &Places,
     own: &[u32],
     size: usize,
     spare: &mut [u32],
     queue: &mut [u32],
+    numbers: &mut [u32],
     order: &mut Order,
     effort: &mut Effort,
 ) -> Option<u32>
     requires { 32 * length own.now < 2 ^ 32 }
 {
     if order.at >= order.kept {
-        *order = make_order(places, own, size, spare, queue, effort);
+        *order = make_order(places, own, size, spare, queue, numbers, effort);
     }
     order.kept = order.kept.min(spare.len());
     let kept = &spare[0..order.kept];
