@@ -199,7 +199,7 @@ pub fn level_by_parts(
     let mut remaining = many;
     while remaining > 0 {
         let start = find_start(
-            places, own, remaining, spare, desk.queue, &mut order, effort,
+            places, own, remaining, spare, desk.queue, desk.via, &mut order, effort,
         );
         let (_, free) = spare.split_at_mut(order.kept.min(spare.len()));
         let (left, deeper) = rest.split_at_mut(own.len());

@@ -48,14 +48,17 @@ pub(crate) struct Walk<'a> {
     /// The how-many-th each place was that the walk met, 0 if not yet: odd
     /// until a place met before it was seen again, and then the least such.
     numbers: &'a mut [u32],
-    /// How many of each place's moves were looked along.
-    cursors: &'a mut [u32],
     // No `Vec` and no stack: lent words, as this crate has no heap.
+    /// From the front the places whose component is known, in the order in which
+    /// it was found, and from the back how many moves were looked along of each
+    /// place of the path: a word for each place to be met is enough for both.
+    found: &'a mut [u32],
     /// From the front the path to where the walk stands, and from the back the
     /// places that were left behind and have no component yet.
     queue: &'a mut [u32],
     path: usize,
     behind: usize,
+    many: usize,
     number: u32,
     components: u32,
     /// How many places the greatest component has.
@@ -67,19 +70,25 @@ impl<'a> Walk<'a> {
     /// through.
     pub(crate) fn new(
         numbers: &'a mut [u32],
-        cursors: &'a mut [u32],
+        found: &'a mut [u32],
         queue: &'a mut [u32],
     ) -> Walk<'a> {
         Walk {
             numbers,
-            cursors,
+            found,
             queue,
             path: 0,
             behind: 0,
+            many: 0,
             number: 1,
             components: 0,
             greatest: 0,
         }
+    }
+
+    /// Of how many places the component is known.
+    pub(crate) fn many(&self) -> usize {
+        self.many
     }
 
     /// How many places the greatest component has that was found.
@@ -107,12 +116,12 @@ impl<'a> Walk<'a> {
         ensures number { self.new.number ≡ number }
         ensures path { self.new.path ≤ self.old.path + 1 }
     {
-        let path = self.path;
         write(self.numbers, place as usize, number);
-        write(self.cursors, place as usize, 0);
-        write(self.queue, path, place);
+        write(self.queue, self.path, place);
         self.number = number;
-        self.path = path.saturating_add(1);
+        self.path = self.path.saturating_add(1);
+        let at = self.found.len().saturating_sub(self.path);
+        write(self.found, at, 0);
     }
 
     /// One step from the last place of the path: on to the next, with a greater
@@ -123,13 +132,14 @@ impl<'a> Walk<'a> {
     {
         let last = self.path.saturating_sub(1);
         let place = word(self.queue, last);
-        let from = word(self.cursors, place as usize);
+        let at = self.found.len().saturating_sub(self.path);
+        let from = word(self.found, at);
         let met = word(self.numbers, place as usize);
         let (next, number) = self.look(view, place, from, met);
         write(self.numbers, place as usize, number);
         match (next, self.number.checked_add(2)) {
             (Some((to, cursor)), Some(greater)) => {
-                write(self.cursors, place as usize, (cursor & 0xffff_ffff) as u32);
+                write(self.found, at, (cursor & 0xffff_ffff) as u32);
                 self.enter(to, greater);
             }
             _ => self.leave(view, place, number),
@@ -206,6 +216,8 @@ impl<'a> Walk<'a> {
         ensures path { self.new.path ≡ self.old.path }
     {
         write(self.numbers, place as usize, DONE);
+        write(self.found, self.many, place);
+        self.many = self.many.saturating_add(1);
         view.put(place, self.components);
     }
 }

@@ -6,7 +6,7 @@
 ghost use Rattle.std.specs.Prelude.{◌≡◌, ◌*◌, ◌^◌, ◌<◌, length};
 
 use crate::bits;
-use crate::components::{View, Walk, is_in, write};
+use crate::components::{View, Walk, is_in, word, write};
 use crate::graph::Places;
 
 /// Subgames of no more places are not split.
@@ -44,8 +44,8 @@ impl Effort {
     }
 }
 
-/// The order of a level's places that is kept in its spare words, and how far
-/// it has been gone through. At first none is kept.
+/// The order of a level's places that is kept in its spare words, two places in
+/// each, and how far it has been gone through. At first none is kept.
 // Numbers beside the lent words, as this crate has no heap: no list is owned,
 // and one that is lent here could not be lent to what the level calls.
 #[derive(Clone, Copy, Default)]
@@ -63,25 +63,39 @@ impl Order {
     }
 }
 
-/// The index of the first place of the order, from `from` on, that is left.
-fn first_left(own: &[u32], order: &[u32], from: usize) -> usize {
-    match order.iter().skip(from).position(|place| is_in(own, *place)) {
-        Some(ahead) => from.saturating_add(ahead),
-        None => order.len(),
+/// Packs so many places, which stand in a word each, two into each of the first
+/// of these words. How many words they take then.
+// A level's order is kept while all the levels below are gone through, so that
+// words for orders run short first; and a game has no more than 2^14 places.
+// Behind an odd number of places any may stand: where it is come to, none is left.
+fn pack(order: &mut [u32], many: usize) -> usize {
+    let kept = many.div_ceil(2);
+    for i in 0..kept {
+        let low = word(order, 2 * i) & 0xffff;
+        let high = word(order, 2 * i + 1) & 0xffff;
+        write(order, i, high << 16 | low);
+    }
+    kept
+}
+
+/// The place of the order with this index.
+fn place_at(order: &[u32], i: usize) -> u32 {
+    let pair = word(order, i / 2);
+    if i % 2 == 0 {
+        pair & 0xffff
+    } else {
+        pair >> 16
     }
 }
 
-/// The places of a subgame, listed as their components are found: `many` stand
-/// in `list`, which is lent, as this crate has no heap.
-#[derive(Drop)]
-struct Listing<'a> {
+/// The places of a subgame, and their moves.
+#[derive(Clone, Copy)]
+struct Subgame<'a> {
     places: &'a Places<'a>,
     own: &'a [u32],
-    list: &'a mut [u32],
-    many: usize,
 }
 
-impl View for Listing<'_> {
+impl View for Subgame<'_> {
     fn has(&self, place: u32) -> bool {
         is_in(self.own, place)
     }
@@ -95,10 +109,8 @@ impl View for Listing<'_> {
         }
     }
 
-    fn put(&mut self, place: u32, _component: u32) {
-        write(self.list, self.many, place);
-        self.many = self.many.saturating_add(1);
-    }
+    // The order in which the walk finds them is all that is wanted.
+    fn put(&mut self, _place: u32, _component: u32) {}
 }
 
 /// Takes the numbers from the places of a set.
@@ -121,58 +133,59 @@ fn make_order<'a>(
     size: usize,
     spare: &'a mut [u32],
     queue: &'a mut [u32],
+    numbers: &'a mut [u32],
     effort: &mut Effort,
 ) -> Order
     requires { 32 * length own.now < 2 ^ 32 }
 {
     let all = places.len() as usize;
     effort.spend(size);
-    if size <= SMALL || effort.steps < effort.next || spare.len() < (2 * all).saturating_add(size) {
+    if size <= SMALL || effort.steps < effort.next {
         return Order::default();
     }
-    let front = spare.len() - 2 * all;
-    let (list, spare) = spare.split_at_mut(front);
-    let (numbers, cursors) = spare.split_at_mut(all);
-    clear(own, numbers);
-    let mut listing = Listing {
-        places,
-        own,
-        list,
-        many: 0,
-    };
-    let mut walk = Walk::new(numbers, cursors, queue);
-    for place in bits::iter(own) {
-        walk.go_from(&mut listing, place);
+    if spare.len() < size || numbers.len() < all {
+        return Order::default();
     }
+    clear(own, numbers);
+    let mut subgame = Subgame { places, own };
+    let mut walk = Walk::new(numbers, &mut *spare, queue);
+    for place in bits::iter(own) {
+        walk.go_from(&mut subgame, place);
+    }
+    let many = walk.many();
     let greatest = walk.greatest();
     effort.split(size, greatest);
     if greatest > size / 8 * 7 {
         return Order::default();
     }
     Order {
-        kept: listing.many,
+        kept: pack(spare, many),
         at: 0,
     }
 }
 
 /// A place of what is left of a level from which few places can be come to,
-/// if one is known or it is worth while to look for one.
+/// if one is known or it is worth while to look for one. A queue and a number
+/// for each place are lent to the walk that looks, and hold anything before and
+/// after.
 pub fn find_start(
     places: &Places,
     own: &[u32],
     size: usize,
     spare: &mut [u32],
     queue: &mut [u32],
+    numbers: &mut [u32],
     order: &mut Order,
     effort: &mut Effort,
 ) -> Option<u32>
     requires { 32 * length own.now < 2 ^ 32 }
 {
-    if order.at >= order.kept {
-        *order = make_order(places, own, size, spare, queue, effort);
+    if order.at / 2 >= order.kept {
+        *order = make_order(places, own, size, spare, queue, numbers, effort);
     }
     order.kept = order.kept.min(spare.len());
-    let kept = &spare[0..order.kept];
-    order.at = first_left(own, kept, order.at);
-    kept.get(order.at).copied()
+    let end = 2 * order.kept;
+    let left = (order.at..end).find(|i| is_in(own, place_at(spare, *i)));
+    order.at = left.unwrap_or(end);
+    left.map(|i| place_at(spare, i))
 }

@@ -48,7 +48,7 @@ impl Claim<'_> {
             return;
         }
         let (numbers, lent) = lent.split_at_mut(count);
-        let (cursors, lent) = lent.split_at_mut(count);
+        let (found, lent) = lent.split_at_mut(count);
         let (queue, _) = lent.split_at_mut(count);
         numbers.fill(0);
         ranks.fill(0);
@@ -57,7 +57,7 @@ impl Claim<'_> {
             heaviest,
             ranks,
         };
-        let mut walk = Walk::new(numbers, cursors, queue);
+        let mut walk = Walk::new(numbers, found, queue);
         for start in 0..self.graph.len() {
             if ranking.has(start) {
                 walk.go_from(&mut ranking, start);
