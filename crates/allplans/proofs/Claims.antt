@@ -1,8 +1,12 @@
 -- Claims that are read one by one.
-use Rattle.std.proofs.Common.{◌≡◌, ℕ, zero, suc, ◌+◌, ◌*◌, ◌<◌, List, [], ◌∷◌, ◌++◌, length, get_or, drop, map, ap, ◌∙◌, arith, below_more, get_or-take, get_or-drop}
+use Rattle.std.proofs.Common.{◌≡◌, ℕ, zero, suc, ◌+◌, ◌*◌, ◌<◌, List, [], ◌∷◌, ◌++◌, length, get_or, drop, map, ap, sym, ◌∙◌, arith, below_more, get_or-take, get_or-drop}
 use Rattle.std.specs.Simd.{first_chunks}
+use Rattle.std.specs.List.{zip}
 use Rattle.std.proofs.lemmas.List.{get_or_append_left, get_or_push, map-append, length-map}
+use Rattle.std.proofs.lemmas.Simd.{map-map}
+use Rattle.std.proofs.lemmas.Slice.Zip.{firsts-zip, seconds-zip}
 use Rattle.allplans.specs.declared.answer.Claim.{Claim}
+use Rattle.allplans.specs.Claims.{Paired, claims_of}
 
 -- what stands in the pairs of a list
 pub paired : (k : ℕ) (xs : List ℕ) (i j : ℕ) (d : List ℕ) → i < k → j < 2 → get_or (get_or (first_chunks 2 k xs) i d) j 0 ≡ get_or xs (2 * i + j) 0
@@ -26,3 +30,10 @@ told_more f cs cs' c n target len e here inv =
     below_more (λ v. get_or (map f cs') v 0 ≡ target v) n
     (λ v h. ap (λ (q : List ℕ). get_or q v 0) more ∙ (get_or_append_left (map f cs) (f c ∷ []) 0 v (omega arith) ∙ inv v h))
     (ap (λ (q : List ℕ). get_or q n 0) more ∙ (get_or_push (map f cs) (f c) 0 n long ∙ here))
+
+-- claims that were made of two lists tell them again
+pub told_again : (won goes : List ℕ) (claims : List Claim) → length won ≡ length goes → claims ≡ claims_of won goes → Paired won goes claims
+told_again won goes claims level e = (
+  ap (map (λ (c : Claim). c.winner)) e ∙ (map-map (λ (c : Claim). c.winner) _ (zip won goes) ∙ firsts-zip won goes (sym level)),
+  ap (map (λ (c : Claim). c.goes)) e ∙ (map-map (λ (c : Claim). c.goes) _ (zip won goes) ∙ seconds-zip won goes (sym level)),
+)

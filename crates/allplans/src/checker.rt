@@ -152,18 +152,18 @@ fn look_at(claimed: Claimed, place: usize, here: &Place, claim: Claim) -> Result
     if !here.moves.contains(&claim.goes) {
         return Err(Wrong::NoMove(place));
     }
-    if claimed.gives(claim.goes as usize, side) {
+    if claimed.names(claim.goes as usize, side) {
         Ok(())
     } else {
         Err(Wrong::Leaves(place))
     }
 }
 
-/// Whether each of the moves goes to a place that is claimed for `side`.
+/// Whether each of the moves goes to where the claims name `side`.
 fn all_won(moves: &[u32], claimed: Claimed, side: Side) -> bool
     ensures { result ≡ true → AllWon moves.now (winners claimed.entry.claims.now) (side_word side) }
 {
-    moves.iter().all(|to| claimed.gives(*to as usize, side))
+    moves.iter().all(|to| claimed.names(*to as usize, side))
 }
 
 /// Looks for a round of a view by a place of its greatest weight.
@@ -251,4 +251,36 @@ fn put_before(before: &mut [Option<usize>], to: usize, place: usize) -> bool
     };
     before[to] = Some(place);
     true
+}
+
+#[cfg(test)]
+mod tests {
+    use super::*;
+    use std::test::Fail;
+
+    // What is said of an answer to a game of one place of weight 0, by which its
+    // one move is made.
+    fn checked(heap: Global, whose: u32, to: u32, winner: u32) -> Result<(), Refusal> {
+        let mut game = Game::new(heap);
+        game.add(whose, 0, vec![in heap; to].map_err(Fault::from)?)?;
+        check(heap, &game, &Answer::of_lists(heap, &[winner], &[to])?)
+    }
+
+    // Behind the end of an answer the definition of a right one reads 0: a play of
+    // side 0 may go there, and one of side 1 may not.
+    #[test]
+    fn behind_the_end_stands_0(rt: HostRuntime) -> Result<(), Fail> {
+        let heap = rt.alloc();
+        checked(heap, 1, 2, 0)?;
+        checked(heap, 0, 5, 0)?;
+        for (whose, to) in [(0, 2), (1, 5)] {
+            assert!(rt;
+                matches!(
+                    checked(heap, whose, to, 1),
+                    Err(Refusal::Wrong(Wrong::Leaves(0)))
+                )
+            );
+        }
+        Ok(())
+    }
 }

@@ -37,4 +37,12 @@ impl<'a> Claimed<'a> {
             .get(place)
             .is_some_and(|claim| claim.winner == u32::from(side))
     }
+
+    /// Whether the word for the winner of this place names `side`; behind the
+    /// end of the claims it is 0.
+    pub fn names(self, place: usize, side: Side) -> bool
+        ensures { IsTrue result ↔ (slice_index (winners self.entry.claims.now) place ≡ side_word side) }
+    {
+        self.claims.get(place).map_or(0, |claim| claim.winner) == u32::from(side)
+    }
 }
