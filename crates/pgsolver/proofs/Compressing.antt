@@ -1,5 +1,5 @@
 -- Priorities are made smaller one after the other, from the least.
-use Rattle.std.proofs.Common.{◌≡◌, ℕ, ◌+◌, ◌%◌, ◌<◌, ◌≤◌, Bool, true, false, cond, eqb, ◌⊎◌, List, [], length, get_or, Some, None, Option, sym, refl, ap, ◌∙◌, subst, inl, inr, ⊎_elim, arith}
+use Rattle.std.proofs.Common.{◌≡◌, ℕ, ◌+◌, ◌-◌, ◌%◌, ◌<◌, ◌≤◌, Bool, true, false, cond, eqb, ◌⊎◌, List, [], length, get_or, Some, None, Option, sym, refl, ap, ◌∙◌, subst, inl, inr, ⊎_elim, arith}
 use Rattle.std.specs.BTreeMap.{BTreeMap, get, is_at, Updates, IsLowerBound}
 use Rattle.std.specs.Map.{lookup}
 use Rattle.std.specs.Option.{is_some, IsSome, unwrap_or}
@@ -9,9 +9,9 @@ use Rattle.std.proofs.lemmas.List.{length-map, get_or-map, nil_from_length}
 use Rattle.std.proofs.lemmas.List.Elements.{All-from_get_or}
 use Rattle.std.proofs.lemmas.Map.Keys.{le_from_not_gt}
 use Rattle.std.proofs.lemmas.Bool.{cond-true, cond-false, ne_eqb, eq-eqb, cases_lt, cases_eq}
-use Rattle.pgsolver.specs.Table.{Finds, Locates}
+use Rattle.pgsolver.specs.Table.{Finds, IsFullBelow, Locates}
 use Rattle.pgsolver.specs.Weights.{Below, Keeps, NoRoom, weight_of, weights_by}
-use Rattle.pgsolver.proofs.Looking.{apart_at}
+use Rattle.pgsolver.proofs.Looking.{apart_at, was_there}
 
 -- the weight is written where the priority stands, and nowhere else
 pub record Marks (ps : List ℕ) (p w : ℕ) (old new : List ℕ) : Type 0 where
@@ -115,26 +115,26 @@ some_at : (ps : List ℕ) (i : ℕ) → i < length ps → (o : Option ℕ) → F
 some_at ps i l None h = absurd (h i l refl)
 some_at ps i l (Some v) h = refl
 
--- the weights up to some bound are in the map, and where the priorities from there on stand is left
+-- the weights up to some bound are in the map, and where the priorities from there on stand is left, but for those above more than can still get weights
 pub record Spreading (ps : List ℕ) (m left : BTreeMap ℕ ℕ) (lowest : ℕ) : Type 0 where
   pub bound : ℕ
   pub spread : Spread ps (weights_by m ps) bound lowest
   pub some : (i : ℕ) → i < length ps → get_or ps i 0 < bound → IsSome (get nat_cmp m (get_or ps i 0))
   pub stands : (x v : ℕ) → get nat_cmp left x ≡ Some v → (bound ≤ x) × (v < length ps) × (get_or ps v 0 ≡ x)
-  pub all : (i : ℕ) → i < length ps → bound ≤ get_or ps i 0 → IsSome (get nat_cmp left (get_or ps i 0))
+  pub all : (i : ℕ) → i < length ps → bound ≤ get_or ps i 0 → IsSome (get nat_cmp left (get_or ps i 0)) ⊎ IsFullBelow (257 - lowest) left (get_or ps i 0)
 
-pub spreading_first : (ps : List ℕ) (m left : BTreeMap ℕ ℕ) → Locates left ps → Spreading ps m left 0
+pub spreading_first : (ps : List ℕ) (m left : BTreeMap ℕ ℕ) → Locates 257 left ps → Spreading ps m left 0
 spreading_first ps m left h = record {
   bound = 0;
   spread = spread_none ps (weights_by m ps) (sym (length-map ps (weight_of m)));
   some = λ i l k. absurd (omega arith);
-  stands = λ x v e. let t = subst (Finds ps x) e (h x) in (omega arith, t.0, t.1);
-  all = λ i l k. some_at ps i l (get nat_cmp left (get_or ps i 0)) (h (get_or ps i 0));
+  stands = λ x v e. ⊎_elim (λ f. let t = subst (Finds ps x) e f in (omega arith, t.0, t.1)) (λ b. absurd (omega (arith, b.1 x (ap is_some e)))) (h x);
+  all = λ i l k. ⊎_elim (λ f. inl (some_at ps i l (get nat_cmp left (get_or ps i 0)) f)) (λ b. inr b) (h (get_or ps i 0));
 }
 
 module _ (ps : List ℕ) (m left : BTreeMap ℕ ℕ) (lowest : ℕ) (s : Spreading ps m left lowest) (p at : ℕ) (value : get nat_cmp left p ≡ Some at) (low : IsLowerBound nat_cmp left p) (w : ℕ) (is : w ≡ lowest + (p % 2 + lowest) % 2) where
   least : (i : ℕ) → i < length ps → s.bound ≤ get_or ps i 0 → p ≤ get_or ps i 0
-  least i l b = le_from_not_gt p (get_or ps i 0) (low (get_or ps i 0) (s.all i l b))
+  least i l b = ⊎_elim (λ k. le_from_not_gt p (get_or ps i 0) (low (get_or ps i 0) k)) (λ k. omega (arith, k.1 p (ap is_some value))) (s.all i l b)
 
   here : (s.bound ≤ p) × (at < length ps) × (get_or ps at 0 ≡ p)
   here = s.stands p at value
@@ -148,7 +148,7 @@ module _ (ps : List ℕ) (m left : BTreeMap ℕ ℕ) (lowest : ℕ) (s : Spreadi
   pub spreading_full : 256 ≤ w → NoRoom ps at
   spreading_full h = spread_full ps (weights_by m ps) s.bound lowest s.spread at here.1 from first p w (sym here.2) is h
 
-  module _ (fits : w < 256) (m2 left2 : BTreeMap ℕ ℕ) (new : Updates nat_cmp m m2 p (Some w)) (gone : Updates nat_cmp left left2 p None) where
+  module _ (fits : w < 256) (m2 left2 : BTreeMap ℕ ℕ) (new : Updates nat_cmp m m2 p (Some w)) (gone : Updates nat_cmp left left2 p None) (fewer : length left.entries ≡ length left2.entries + 1) where
     updated : (x : ℕ) → weight_of m2 x ≡ cond (eqb x p) w (weight_of m x)
     updated x =
         ⊎_elim
@@ -180,7 +180,10 @@ module _ (ps : List ℕ) (m left : BTreeMap ℕ ℕ) (lowest : ℕ) (s : Spreadi
           (λ ne. kept (get_or ps i 0) ne (s.some i l (⊎_elim (λ k. k) (λ k. absurd (ne (omega (arith, least i l k, h)))) (cases_lt (get_or ps i 0) s.bound))))
           (cases_eq p (get_or ps i 0));
       stands = λ x v h. stands_at x v (cases_eq p x) h;
-      all = λ i l h. subst IsSome (sym (gone.2 (get_or ps i 0) (apart_at p (get_or ps i 0) (λ e. omega (arith, e, h))))) (s.all i l (omega (arith, here.0, h)));
+      all = λ i l h. ⊎_elim
+          (λ k. inl (subst IsSome (sym (gone.2 (get_or ps i 0) (apart_at p (get_or ps i 0) (λ e. omega (arith, e, h))))) k))
+          (λ k. inr (omega (arith, k.0, fewer, is), λ q b. k.1 q (was_there left left2 p gone q b)))
+          (s.all i l (omega (arith, here.0, h)));
     }
 
 pub spreading_all : (ps : List ℕ) (m left : BTreeMap ℕ ℕ) (lowest : ℕ) → Spreading ps m left lowest → length left.entries ≡ 0 → All (λ p. IsSome (get nat_cmp m p)) ps × Keeps ps (weights_by m ps) × Below 256 (weights_by m ps)
@@ -188,7 +191,10 @@ spreading_all ps m left lowest s e =
     let none : left.entries ≡ [] = nil_from_length left.entries e in
     let under : (i : ℕ) → i < length ps → get_or ps i 0 < s.bound = λ i l. ⊎_elim
     (λ k. k)
-    (λ k. absurd (let z : ◌≡◌ {A = Bool} false true = sym (ap (λ es. is_some (lookup (is_at (nat_cmp (get_or ps i 0))) es)) none) ∙ s.all i l k in cc))
+    (λ k. absurd (⊎_elim
+    (λ b. let z : ◌≡◌ {A = Bool} false true = sym (ap (λ es. is_some (lookup (is_at (nat_cmp (get_or ps i 0))) es)) none) ∙ b in cc)
+    (λ b. omega (arith, b.0, e, s.spread.high))
+    (s.all i l k)))
     (cases_lt (get_or ps i 0) s.bound) in
     let t = spread_all ps (weights_by m ps) s.bound lowest s.spread under in
     (All-from_get_or (λ p. IsSome (get nat_cmp m p)) ps 0 (λ i l. s.some i l (under i l)), t.0, t.1)

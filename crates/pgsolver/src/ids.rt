@@ -34,7 +34,7 @@ impl Places {
         requires { length nodes.now ≤ 16384 }
         ensures { Indexed nodes.now result }
     {
-        let mut ids = IndexSet::new(heap);
+        let mut ids = IndexSet::with_capacity(heap, nodes.len())?;
         for (n, node) in nodes.iter().enumerate() {
             if !ids.insert(node.head.id)? {
                 return Err(Wrong::Twice(n));

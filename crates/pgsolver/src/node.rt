@@ -79,7 +79,7 @@ fn name(text: &[u8]) -> Result<(&[u8], &[u8]), Slip>
 pub(crate) fn ended(text: &[u8]) -> Result<&[u8], Slip>
     ensures { ReadRest (ended text.now) result }
 {
-    scan::behind(b";", text).ok_or(Slip::at(Fault::End, scan::skip(text)))
+    scan::behind(b";", text).ok_or_else(|| Slip::at(Fault::End, scan::skip(text)))
 }
 
 /// What stands last in a node: its name, and the semicolon.

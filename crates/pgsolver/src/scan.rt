@@ -35,12 +35,11 @@ pub(crate) fn digits(text: &[u8]) -> Result<(u32, &[u8]), Slip>
     // No `parse`: it does not tell at which digit the number becomes too large.
     let mut value = 0u32;
     for (n, b) in text.iter().enumerate() {
-        let rest = &text[n..];
         if !b.is_ascii_digit() {
-            return Ok((value, rest));
+            return Ok((value, &text[n..]));
         }
         let Ok(more) = u32::try_from(10 * u64::from(value) + u64::from(*b - b'0')) else {
-            return Err(Slip::at(Fault::Large, rest));
+            return Err(Slip::at(Fault::Large, &text[n..]));
         };
         value = more;
     }

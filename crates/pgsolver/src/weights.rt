@@ -1,9 +1,9 @@
 //! Large priorities made small.
-ghost use Rattle.std.specs.Prelude.{◌≡◌, ◌%◌, IfOk, IfErr, IsSome, All};
+ghost use Rattle.std.specs.Prelude.{◌≡◌, ◌%◌, IfOk, OnOk, IfErr, IsSome, IsTrue, ◌↔◌, All};
 ghost use Rattle.std.specs.BTreeMap.{get};
 ghost use Rattle.std.specs.Ordering.{nat_cmp};
 ghost use Rattle.pgsolver.specs.declared.weights.NoWeights.TheVariants.{Memory};
-ghost use Rattle.pgsolver.specs.Table.{Locates};
+ghost use Rattle.pgsolver.specs.Table.{Adds, IsFullBelow, Locates};
 ghost use Rattle.pgsolver.specs.Weights.{weights_by, Spreads, Fitted, Unfit, SameWins};
 
 use std::alloc::{AllocError, AllocFailed, Global};
@@ -15,13 +15,40 @@ use std::fmt;
 /// Weights are below this.
 const WEIGHTS: u32 = 256;
 
-/// For each priority where it first stands.
+/// So many of the least priorities tell whether all get weights, as each weight is given once.
+const MOST_FIRSTS: usize = WEIGHTS as usize + 1;
+
+/// Whether so many priorities are below this one.
+fn is_beyond(firsts: &BTreeMap<u32, usize>, priority: u32) -> bool
+    ensures { IsTrue result ↔ IsFullBelow 257 firsts.now priority }
+{
+    firsts.len() >= MOST_FIRSTS
+        && firsts
+            .last_key_value()
+            .is_some_and(|(last, _)| *last < priority)
+}
+
+/// Adds where the priority stands, unless it has a place.
+fn add(firsts: &mut BTreeMap<u32, usize>, priority: u32, n: usize) -> Result<(), AllocError>
+    ensures { OnOk result (Adds firsts.old firsts.new priority n) }
+{
+    firsts.entry(priority)?.or_insert(n);
+    Ok(())
+}
+
+/// For each of the least priorities where it first stands; where there are more, the others are above all of them.
 fn firsts(heap: Global, priorities: &[u32]) -> Result<BTreeMap<u32, usize>, AllocError>
-    ensures { IfOk result (λ m. Locates m priorities.now) }
+    ensures { IfOk result (λ m. Locates 257 m priorities.now) }
 {
     let mut firsts = BTreeMap::new(heap);
     for (n, priority) in priorities.iter().enumerate() {
-        firsts.entry(*priority)?.or_insert(n);
+        if is_beyond(&firsts, *priority) {
+            continue;
+        }
+        add(&mut firsts, *priority, n)?;
+        if firsts.len() > MOST_FIRSTS {
+            firsts.pop_last();
+        }
     }
     Ok(firsts)
 }

@@ -1,8 +1,5 @@
-use Rattle.std.proofs.Common.{ℕ}
-use Rattle.std.specs.BTreeMap.{get}
-use Rattle.std.specs.Ordering.{nat_cmp}
-use Rattle.pgsolver.proofs.Looking.{FoundIn}
+use Rattle.pgsolver.proofs.Looking.{Found}
 use Rattle.pgsolver.proofs.weights.firsts.Given as goal
 
 abbrev pub invariant-loop-n : goal.invariant-loop-n
-invariant-loop-n l = (x : ℕ) → FoundIn l.priorities l.n x (get nat_cmp l.firsts x)
+invariant-loop-n l = Found l.priorities l.n l.firsts
