@@ -1,14 +1,15 @@
 -- Where a name stands among the names.
-use Rattle.std.proofs.Common.{◌≡◌, ℕ, zero, suc, ◌<◌, Bool, true, false, cond, ltb, List, [], ◌∷◌, ◌+◌, not, ◌||◌, ◌++◌, is_some, Ok, map, length, get_or, string_bytes, Some, None, Option, String, sym, refl, ap, ◌∙◌, arith}
+use Rattle.std.proofs.Common.{◌≡◌, ℕ, zero, suc, ◌<◌, Bool, true, false, cond, ltb, List, [], ◌∷◌, ◌+◌, not, ◌||◌, ◌++◌, is_some, slice_get, Ok, Err, map, length, get_or, string_bytes, Some, None, String, sym, refl, ap, ◌∙◌, arith}
 use Rattle.std.specs.List.{list_any, position, position_or_len}
 use Rattle.std.specs.Str.{bytes_eq}
 use Rattle.std.proofs.lemmas.Slice.Eq.{bytes_eq-Decides}
-use Rattle.std.proofs.lemmas.Bool.{cond-true, cond-false, lt-ltb, le-ltb, ltb-true, ltb-false, or_from}
+use Rattle.std.proofs.lemmas.Bool.{cond-true, cond-false, lt-ltb, le-ltb, ltb-true, ltb-false, or_parts, false≢true}
 use Rattle.indexmap.specs.IndexSet.{insert_key}
 use Rattle.std.specs.String.{string_eq}
 use Rattle.std.proofs.lemmas.List.{length-map, map_push}
+use Rattle.std.proofs.lemmas.Option.{same_Some}
 use Rattle.std.proofs.lemmas.Bool.Decides.{same_from_decides}
-use Rattle.drawing.specs.Reading.{up, index_of, add_new}
+use Rattle.drawing.specs.Reading.{up, index_of, add_new, twice}
 
 pub index_some : (x : List ℕ) (names : List (List ℕ)) (i : ℕ) → i < length names → get_or names i [] ≡ x → (j : ℕ) × (index_of x names ≡ Some j)
 index_some x [] i l e = absurd (omega arith)
@@ -41,28 +42,37 @@ index_is_position x (k ∷ ks) =
     ∙ ap (λ o. cond (bytes_eq x (string_bytes k)) (Some 0) (up o)) (index_is_position x ks)
     ∙ one_on (position_or_len (λ k. bytes_eq x (string_bytes k)) ks) (length ks) (bytes_eq x (string_bytes k)) (ltb (position_or_len (λ k. bytes_eq x (string_bytes k)) ks) (length ks)) refl
 
-up_none : (o : Option ℕ) → up o ≡ None → o ≡ None
-up_none None e = refl
-up_none (Some i) e = cc
+-- a name that is not in the set has no index
+pub index_none : {Z : Type 0} (x : List ℕ) (ks : List (String Z)) → list_any (λ k. bytes_eq x (string_bytes k)) ks ≡ false → index_of x (map string_bytes ks) ≡ None
+index_none x [] e = refl
+index_none x (k ∷ ks) e = let p = or_parts _ _ e in cond-false _ _ _ (bytes_eq_swap (string_bytes k) x ∙ p.0) ∙ ap up (index_none x ks p.1)
 
--- a name that has no index is not in the set
-pub index_absent : {Z : Type 0} (x : List ℕ) (ks : List (String Z)) → index_of x (map string_bytes ks) ≡ None → list_any (λ k. bytes_eq x (string_bytes k)) ks ≡ false
-index_absent x [] e = refl
-index_absent x (k ∷ ks) e = at (λ h. index_absent x ks h) (bytes_eq (string_bytes k) x) refl e
+-- a name that is in the set has one
+pub index_there : {Z : Type 0} (x : List ℕ) (ks : List (String Z)) → list_any (λ k. bytes_eq x (string_bytes k)) ks ≡ true → (i : ℕ) × (index_of x (map string_bytes ks) ≡ Some i)
+index_there x [] e = absurd (false≢true e)
+index_there x (k ∷ ks) e = at (λ h. index_there x ks h) (bytes_eq x (string_bytes k)) refl e
   where
-    at : (index_of x (map string_bytes ks) ≡ None → list_any (λ k. bytes_eq x (string_bytes k)) ks ≡ false) → (t : Bool) → bytes_eq (string_bytes k) x ≡ t → cond t (Some 0) (up (index_of x (map string_bytes ks))) ≡ None → (bytes_eq x (string_bytes k) || list_any (λ k. bytes_eq x (string_bytes k)) ks) ≡ false
-    at rec true q h = cc
-    at rec false q h = or_from _ _ (bytes_eq_swap x (string_bytes k) ∙ q) (rec (up_none _ h))
+    at : (list_any (λ k. bytes_eq x (string_bytes k)) ks ≡ true → (i : ℕ) × (index_of x (map string_bytes ks) ≡ Some i)) → (t : Bool) → bytes_eq x (string_bytes k) ≡ t → (t || list_any (λ k. bytes_eq x (string_bytes k)) ks) ≡ true → (i : ℕ) × (cond (bytes_eq (string_bytes k) x) (Some 0) (up (index_of x (map string_bytes ks))) ≡ Some i)
+    at rec true q h = (0, cond-true _ _ _ (bytes_eq_swap (string_bytes k) x ∙ q))
+    at rec false q h = let r = rec h in (suc r.0, cond-false _ _ _ (bytes_eq_swap (string_bytes k) x ∙ q) ∙ ap up r.1)
 
-none_from : (o : Option ℕ) → is_some o ≡ false → o ≡ None
-none_from None e = refl
-none_from (Some i) e = cc
+module _ {Z : Type 0} (names : List (List ℕ)) (ks : List (String Z)) (k : String Z) (view : map string_bytes ks ≡ names) where
+  module _ (there : list_any (string_eq k) ks ≡ false) where
+    none : index_of (string_bytes k) names ≡ None
+    none = ap (index_of (string_bytes k)) (sym view) ∙ index_none (string_bytes k) ks there
 
--- a name that is not among the others goes behind them
-pub set_added : {Z : Type 0} (n : ℕ) (names : List (List ℕ)) (ks new : List (String Z)) (k : String Z) → map string_bytes ks ≡ names → length ks < 16384 → is_some (index_of (string_bytes k) names) ≡ false → new ≡ insert_key string_eq ks k → add_new n names (string_bytes k) (index_of (string_bytes k) names) ≡ Ok (map string_bytes new)
-set_added n names ks new k view room none e =
-    let absent : index_of (string_bytes k) names ≡ None = none_from _ none in
-    let there = index_absent (string_bytes k) ks (ap (index_of (string_bytes k)) view ∙ absent) in
-    ap (add_new n names (string_bytes k)) absent
-    ∙ cond-true _ _ _ (lt-ltb (length names) 16384 (omega (arith, ap length view, length-map ks string_bytes)))
-    ∙ ap Ok (ap (λ l. l ++ (string_bytes k ∷ [])) (sym view) ∙ sym (map_push string_bytes ks k) ∙ ap (map string_bytes) (sym (e ∙ cond-false _ _ _ there)))
+    pub set_lacks : is_some (index_of (string_bytes k) names) ≡ true → ⊥
+    set_lacks e = false≢true (sym (ap is_some none) ∙ e)
+
+    -- a name that is not among the others goes behind them
+    pub set_added : (n : ℕ) (new : List (String Z)) → length ks < 16384 → new ≡ insert_key string_eq ks k → add_new n names (string_bytes k) (index_of (string_bytes k) names) ≡ Ok (map string_bytes new)
+    set_added n new room e =
+        ap (add_new n names (string_bytes k)) none
+        ∙ cond-true _ _ _ (lt-ltb (length names) 16384 (omega (arith, ap length view, length-map ks string_bytes)))
+        ∙ ap Ok (ap (λ l. l ++ (string_bytes k ∷ [])) (sym view) ∙ sym (map_push string_bytes ks k) ∙ ap (map string_bytes) (sym (e ∙ cond-false _ _ _ there)))
+
+  -- one that is among them is refused by the name that has its place
+  pub set_twice : list_any (string_eq k) ks ≡ true → (n : ℕ) (new : List (String Z)) (i : ℕ) → (l : String Z) × (slice_get new i ≡ Some l) × (string_eq k l ≡ true) → (l : String Z) → slice_get new i ≡ Some l → (x : List ℕ) → x ≡ string_bytes l → add_new n names (string_bytes k) (index_of (string_bytes k) names) ≡ Err (twice n x)
+  set_twice there n new i stored l at x is =
+      ap (add_new n names (string_bytes k)) (ap (index_of (string_bytes k)) (sym view) ∙ (index_there (string_bytes k) ks there).1)
+      ∙ ap (λ y. Err (twice n y)) ((bytes_eq-Decides (string_bytes k) (string_bytes stored.0)).0 stored.2 ∙ ap string_bytes (same_Some stored.0 l (sym stored.1 ∙ at)) ∙ sym is)

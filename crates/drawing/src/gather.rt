@@ -27,7 +27,7 @@ fn name_line(
 pub(crate) fn gather_names(heap: Global, text: &str, kind: Kind) -> Result<Names, Refusal>
     ensures { Gathered kind text.now result }
 {
-    let mut names = Names::new(heap);
+    let mut names = Names::new(heap, text);
     for (number, line) in (1..).zip(text.split('\n')) {
         name_line(heap, &mut names, number, line, kind)?;
     }

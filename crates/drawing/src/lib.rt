@@ -12,6 +12,7 @@ use std::alloc::Global;
 pub mod answer;
 mod answer_refusal;
 mod gather;
+mod keyed;
 pub mod kind;
 mod line;
 mod names;

@@ -5,6 +5,7 @@ ghost use Rattle.drawing.specs.Passes.{Added};
 ghost use Rattle.drawing.specs.Answering.{Collected};
 
 use crate::answer_refusal::AnswerRefusal;
+use crate::keyed::Keyed;
 use crate::refusal::Refusal;
 use indexmap::IndexSet;
 use std::alloc::{AllocError, Global};
@@ -17,7 +18,7 @@ pub const MOST_PLACES: usize = 16_384;
 /// Names that all differ, each with the index of its place. A contract sees them as a list.
 #[derive(Drop)]
 pub(crate) struct Names {
-    names: IndexSet<String>,
+    names: IndexSet<String, Keyed>,
 }
 
 impl Model for Names {
@@ -31,11 +32,12 @@ impl Model for Names {
 }
 
 impl Names {
-    pub(crate) fn new(heap: Global) -> Names
+    /// No names yet of those in this text.
+    pub(crate) fn new(heap: Global, text: &str) -> Names
         ensures { result ≡ [] }
     {
         Names {
-            names: IndexSet::new(heap),
+            names: IndexSet::with_hasher(heap, Keyed::by(&text)),
         }
     }
 
@@ -46,7 +48,7 @@ impl Names {
         if names.len() > MOST_PLACES {
             return Err(AnswerRefusal::TooManyPlaces);
         }
-        let mut all = IndexSet::new(heap);
+        let mut all = IndexSet::with_hasher(heap, Keyed::by(&names));
         for name in names {
             if !all.insert(name.clone()?)? {
                 return Err(AnswerRefusal::SameName {
@@ -74,14 +76,15 @@ impl Names {
     pub(crate) fn add(&mut self, line: usize, name: String) -> Result<(), Refusal>
         ensures { Added line (string_bytes name) self.old self.new result }
     {
-        if self.find(name.as_str()).is_some() {
-            return Err(Refusal::Twice { line, name });
-        }
-        if self.names.len() >= MOST_PLACES {
+        if self.names.len() >= MOST_PLACES && self.find(name.as_str()).is_none() {
             return Err(Refusal::TooManyPlaces { line });
         }
-        self.names.insert(name)?;
-        Ok(())
+        let (place, is_new) = self.names.insert_full(name)?;
+        if is_new {
+            return Ok(());
+        }
+        let name = self.names[place].clone()?;
+        Err(Refusal::Twice { line, name })
     }
 
     /// The names alone.
