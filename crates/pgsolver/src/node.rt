@@ -1,16 +1,20 @@
 //! A node: ID PRIORITY OWNER SUCC,SUCC,.. "NAME";
-ghost use Rattle.std.specs.Prelude.{◌≡◌, ◌≤◌, vec_items};
+ghost use Rattle.std.specs.Prelude.{◌≡◌, ◌≤◌};
 ghost use Rattle.pgsolver.specs.Form.{name, ended, tail, owner, head, goals};
 ghost use Rattle.pgsolver.specs.Read.{ref_now, ReadBy, Read, ReadRest, ReadOrStops};
 
 use crate::refusal::{Fault, Slip, Stop};
 use crate::scan;
 use endless::side::Side;
+use smallvec::SmallVec;
 use std::alloc::Global;
 
 // Each form of text has this number of its own, as neither crate knows of the other.
 /// The most successors, those of all nodes together.
 pub const MOST_MOVES: usize = 64_000;
+
+/// The successors of a node: few of them lie in it.
+pub(crate) type Goals = SmallVec<u32, 4>;
 
 /// What stands first in a node.
 #[derive(Clone, Copy)]
@@ -45,11 +49,11 @@ pub(crate) fn read_head(text: &[u8]) -> Result<(Head, &[u8]), Slip>
 }
 
 /// The successors, with a comma between them; so many are used by the nodes before.
-pub(crate) fn goals(heap: Global, text: &[u8], used: usize) -> Result<(Vec<u32>, &[u8]), Stop>
+pub(crate) fn goals(heap: Global, text: &[u8], used: usize) -> Result<(Goals, &[u8]), Stop>
     requires { used ≤ 64000 }
-    ensures { ReadOrStops vec_items (goals used text.now) result }
+    ensures { ReadOrStops (λ v. v.items) (goals used text.now) result }
 {
-    let mut goals = Vec::new(heap);
+    let mut goals = SmallVec::new(heap);
     let mut rest = text;
     loop {
         let (goal, after) = scan::number(Fault::NoSuccessor, rest)?;

@@ -3,7 +3,7 @@ ghost use Rattle.std.specs.Prelude.{◌≡◌, ◌≤◌};
 ghost use Rattle.pgsolver.specs.Form.{node, nodes, header, entries};
 ghost use Rattle.pgsolver.specs.Read.{ReadRest, ReadOrStops, ReadAll};
 
-use crate::node::Head;
+use crate::node::{Goals, Head};
 use crate::refusal::{Fault, Slip, Stop};
 use crate::{node, scan};
 use std::alloc::Global;
@@ -18,7 +18,7 @@ pub const MOST_NODES: usize = 16_384;
 pub(crate) struct Node<'a> {
     pub(crate) head: Head,
     pub(crate) left: usize,
-    pub(crate) goals: Vec<u32>,
+    pub(crate) goals: Goals,
     pub(crate) name: &'a [u8],
 }
 

@@ -33,7 +33,7 @@ fn write_place(
     words.push(u32::from(node.head.owner))?;
     words.push(weight)?;
     words.push(node.goals.len() as u32)?;
-    write_goals(places, &node.goals, n, words)
+    write_goals(places, node.goals.as_slice(), n, words)
 }
 
 // Two lists, gone through together: the weights are what `compress` gives for priorities alone.

@@ -12,13 +12,13 @@ returns-in_err-goal c =
     rw (p.1, p.2) (goals_slip _ _ _ _ c.loop-goals.invariant _ c.in_err-goal.ensures)
 
 pub returns-then-used-len-ge-MOST_MOVES : goal.returns-then-used-len-ge-MOST_MOVES
-returns-then-used-len-ge-MOST_MOVES c = rw c.at.ensures (goals_many _ _ _ _ c.loop-goals.invariant _ _ c.in_ok-goal.ensures (omega (arith, c.if-used-len-ge-MOST_MOVES.true, c.len.ensures, c.loop-goals.goals.ok.0)))
+returns-then-used-len-ge-MOST_MOVES c = rw c.at.ensures (goals_many _ _ _ _ c.loop-goals.invariant _ _ c.in_ok-goal.ensures (omega (arith, c.if-used-len-ge-MOST_MOVES.true, c.len.ensures.value)))
 
 pub returns-in_default : goal.returns-in_default
-returns-in_default c = goals_last _ _ _ _ c.loop-goals.invariant _ _ c.in_ok-goal.ensures (omega (arith, c.if-used-len-ge-MOST_MOVES.false, c.len.ensures, c.loop-goals.goals.ok.0)) _ c.in_ok-push.ensures.items (sym c.in_default.ensures)
+returns-in_default c = goals_last _ _ _ _ c.loop-goals.invariant _ _ c.in_ok-goal.ensures (omega (arith, c.if-used-len-ge-MOST_MOVES.false, c.len.ensures.value)) _ c.in_ok-push.ensures.ok (sym c.in_default.ensures)
 
 pub loop-goals-preserved : goal.loop-goals-preserved
-loop-goals-preserved c = goals_more _ _ _ _ c.loop-goals.invariant _ _ c.in_ok-goal.ensures (omega (arith, c.if-used-len-ge-MOST_MOVES.false, c.len.ensures, c.loop-goals.goals.ok.0)) _ c.in_ok-push.ensures.items _ (sym c.in-Some.ensures)
+loop-goals-preserved c = goals_more _ _ _ _ c.loop-goals.invariant _ _ c.in_ok-goal.ensures (omega (arith, c.if-used-len-ge-MOST_MOVES.false, c.len.ensures.value)) _ c.in_ok-push.ensures.ok _ (sym c.in-Some.ensures)
 
 pub loop-goals-smaller : goal.loop-goals-smaller
 loop-goals-smaller c = goals_less _ _ _ _ c.loop-goals.invariant _ _ c.in_ok-goal.ensures _ (sym c.in-Some.ensures)

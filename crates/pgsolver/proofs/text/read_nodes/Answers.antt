@@ -30,5 +30,5 @@ loop-here-preserved c =
     let few : length (vec_items c.loop-here.nodes) < 16384 = omega (arith, c.if-len-ge-MOST_NODES.false, c.len.ensures, c.loop-here.nodes.ok.0) in
     let longer = c.in_ok-push.ensures.items in
     let more = nodes_more _ _ _ _ c.loop-here.invariant _ c.skip-here.ensures (eqb-false _ 0 (sym c.if-is_empty.ensures)) few _ _ c.in_ok-node.ensures _ longer in
-    let many : c.len-used.result ≡ length c.in_ok-node.node.goes = omega (arith, c.len-used.ensures, c.node.inside.goals.ok.0, ap (λ e. length e.goes) c.node.view_is) in
+    let many : c.len-used.result ≡ length c.in_ok-node.node.goes = omega (arith, c.len-used.ensures.value, ap (λ e. length e.goes) c.node.view_is) in
     subst (λ m. LeftNodes c.args.text.now (vec_items c.push.new.self) (c.loop-here.used + m) c.in_ok-node.after.now) (sym many) more
