@@ -157,11 +157,14 @@ impl<'a> Walk<'a> {
         number: u32,
     ) -> (Option<(u32, usize)>, u32) {
         let mut least = number;
-        for (cursor, to) in view.moves(place).iter().enumerate().skip(from as usize) {
+        let moves = view.moves(place);
+        // Cut, and no `skip`: that goes through the moves before the cursor again.
+        let (before, behind) = moves.split_at(moves.len().min(from as usize));
+        for (i, to) in behind.iter().enumerate() {
             if view.has(*to) {
                 let met = word(self.numbers, *to as usize);
                 if met == 0 {
-                    return (Some((*to, cursor)), least);
+                    return (Some((*to, before.len().saturating_add(i))), least);
                 }
                 if met / 2 < least / 2 {
                     least = met / 2 * 2;
