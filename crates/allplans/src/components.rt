@@ -6,7 +6,6 @@ ghost use Rattle.allplans.specs.Walks.{unmet, IsNewAt, unmet_one};
 use crate::fault::Fault;
 use crate::view::View;
 use std::alloc::Global;
-use std::slice::Iter;
 
 /// The number of the component of each place, from 1; 0 outside the view. A
 /// move never goes to a component of a greater number.
@@ -25,11 +24,8 @@ pub fn components(heap: Global, view: View) -> Result<Vec<u32>, Fault> {
             walk.go(start)?;
         }
     }
-    let components = walk
-        .marks
-        .iter()
-        .map(|mark| mark.component())
-        .collect(heap)?;
+    let marks = walk.into_marks();
+    let components = marks.iter().map(|mark| mark.component()).collect(heap)?;
     Ok(components)
 }
 
@@ -54,11 +50,12 @@ impl Mark {
     }
 }
 
-/// Where a walk stands on its way: at a place, before the moves that are left.
-#[derive(Drop)]
-struct Step<'a> {
+/// Where a walk stands on its way: at a place, behind so many of its moves.
+// A number and no iterator, which takes 8 bytes more, for each place of a long way.
+#[derive(Clone, Copy)]
+struct Step {
     place: usize,
-    moves: Iter<'a, u32>,
+    looked: usize,
 }
 
 /// A walk through a view, each move once (Tarjan 1972).
@@ -70,12 +67,17 @@ struct Walk<'a> {
     /// The places that were met and have no component yet.
     waiting: Vec<usize>,
     /// The way from the start to where the walk stands.
-    path: Vec<Step<'a>>,
+    path: Vec<Step>,
     met: u32,
     closed: u32,
 }
 
 impl Walk<'_> {
+    /// What is known of each place; the way and what waits are let go.
+    fn into_marks(self) -> Vec<Mark> {
+        self.marks
+    }
+
     fn is_new(&self, place: usize) -> bool
         ensures { IsTrue result → IsNewAt self.now.marks.items place }
     {
@@ -123,10 +125,7 @@ impl Walk<'_> {
             low: self.met,
         };
         self.waiting.push(place)?;
-        self.path.push(Step {
-            place,
-            moves: self.view.moves(place).iter(),
-        })?;
+        self.path.push(Step { place, looked: 0 })?;
         Ok(())
     }
 
@@ -137,11 +136,15 @@ impl Walk<'_> {
         ensures unmet { unmet self.new.marks.items ≤ unmet self.old.marks.items }
         ensures new { IfSome result (λ to. IsNewAt self.new.marks.items to) }
     {
-        for to in step.moves.by_ref() {
+        let left = self.view.moves(step.place).get(step.looked..);
+        for (passed, to) in left.unwrap_or(&[]).iter().enumerate() {
             let to = *to as usize;
             if self.view.has(to) {
                 match self.marks.get(to).copied() {
-                    Some(Mark::New) => return Some(to),
+                    Some(Mark::New) => {
+                        step.looked = step.looked.saturating_add(passed + 1);
+                        return Some(to);
+                    }
                     Some(Mark::Open { order, .. }) => self.lower(step.place, order),
                     Some(Mark::Closed(_)) | None => {}
                 }
