@@ -84,8 +84,8 @@ impl Counts {
     pub fn greatest(&self) -> Option<u8>
         ensures { GreatestIs self.now result }
     {
-        (0..=u8::MAX)
-            .rev()
-            .find(|&weight| self.times[usize::from(weight)] > 0)
+        // Through `usize`: back through `0..=u8::MAX` takes three times as long.
+        let weight = (0..KINDS).rev().find(|&weight| self.times[weight] > 0)?;
+        Some(weight as u8)
     }
 }
