@@ -5,6 +5,7 @@ ghost use Rattle.pgsolver.specs.Wrongs.{Indexed};
 ghost use Rattle.pgsolver.specs.Answering.{Collected};
 
 use crate::Named;
+use crate::seeded::Seeded;
 use crate::solution_refusal::SolutionRefusal;
 use crate::text::{MOST_NODES, Node};
 use crate::wrong::Wrong;
@@ -15,7 +16,7 @@ use std::marker::Model;
 /// The ids of the nodes, which all differ, each with the index of its place. A contract sees them as a list.
 #[derive(Drop)]
 pub(crate) struct Places {
-    ids: IndexSet<u32>,
+    ids: IndexSet<u32, Seeded>,
 }
 
 impl Model for Places {
@@ -34,7 +35,8 @@ impl Places {
         requires { length nodes.now ≤ 16384 }
         ensures { Indexed nodes.now result }
     {
-        let mut ids = IndexSet::with_capacity(heap, nodes.len())?;
+        let all: Vec<u32> = nodes.iter().map(|node| node.head.id).collect(heap)?;
+        let mut ids = IndexSet::with_capacity_and_hasher(heap, nodes.len(), Seeded::by(&all))?;
         for (n, node) in nodes.iter().enumerate() {
             if !ids.insert(node.head.id)? {
                 return Err(Wrong::Twice(n));
@@ -50,7 +52,8 @@ impl Places {
         if nodes.len() > MOST_NODES {
             return Err(SolutionRefusal::TooManyNodes);
         }
-        let mut ids = IndexSet::new(heap);
+        let all: Vec<u32> = nodes.iter().map(|named| named.id).collect(heap)?;
+        let mut ids = IndexSet::with_hasher(heap, Seeded::by(&all));
         for named in nodes {
             if !ids.insert(named.id)? {
                 return Err(SolutionRefusal::SameId { id: named.id });

@@ -23,6 +23,7 @@ mod names;
 mod node;
 pub mod refusal;
 mod scan;
+mod seeded;
 mod solution;
 mod solution_refusal;
 mod text;
